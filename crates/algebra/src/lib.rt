@@ -1,0 +1,1 @@
+// No code: the definitions of specs/ and the laws of proofs/ are for the proofs of other crates.
