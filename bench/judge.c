@@ -1,0 +1,76 @@
+/* Times the C call beside the double formula, on the records of a file (ten numbers a line, what follows '|' is not read).
+   Records that are refused are left out. Figures are the medians of REPEATS runs, in ns a record. */
+#include <inttypes.h>
+#include <stdio.h>
+#include <stdlib.h>
+#include <time.h>
+#include "double.h"
+
+enum { REPEATS = 15, MOST = 4096 };
+
+uint64_t shell_judge(uint64_t r, uint64_t t, uint64_t l, uint64_t e, uint64_t fy, uint64_t edges, uint64_t a,
+                     uint64_t sx, uint64_t sphi, uint64_t tau);
+
+static uint64_t rec[MOST][10];
+static volatile uint64_t sink;
+static volatile double dsink;
+
+static uint64_t exact(const uint64_t *v) { return shell_judge(v[0], v[1], v[2], v[3], v[4], v[5], v[6], v[7], v[8], v[9]); }
+
+static double now(void) {
+    struct timespec t;
+    clock_gettime(CLOCK_MONOTONIC, &t);
+    return 1e9 * (double)t.tv_sec + (double)t.tv_nsec;
+}
+
+static int order(const void *x, const void *y) {
+    double a = *(const double *)x, b = *(const double *)y;
+    return a < b ? -1 : a > b;
+}
+
+/* which: a mask of the stresses that are kept, 1 axial, 2 ring, 4 shear, of the records that have all three */
+static void run(const char *what, int which, size_t n) {
+    static uint64_t v[MOST][10];
+    double t[2][REPEATS];
+    size_t m = 0;
+    for (size_t i = 0; i < n; i++) {
+        if (!rec[i][7] || !rec[i][8] || !rec[i][9]) continue;
+        for (int j = 0; j < 10; j++) v[m][j] = j < 7 || (which >> (j - 7) & 1) ? rec[i][j] : 0;
+        m++;
+    }
+    int rounds = 400000 / (int)m + 1;
+    for (int r = 0; r < REPEATS; r++) {
+        double t0 = now();
+        for (int k = 0; k < rounds; k++)
+            for (size_t i = 0; i < m; i++) sink += exact(v[i]);
+        double t1 = now();
+        for (int k = 0; k < rounds; k++)
+            for (size_t i = 0; i < m; i++) dsink += double_sum(v[i]);
+        t[0][r] = (t1 - t0) / rounds / m;
+        t[1][r] = (now() - t1) / rounds / m;
+    }
+    qsort(t[0], REPEATS, sizeof(double), order);
+    qsort(t[1], REPEATS, sizeof(double), order);
+    printf("%-24s %6zu %10.0f (%.0f to %.0f) %8.0f (%.0f to %.0f) %8.1f\n", what, m, t[0][REPEATS / 2], t[0][0], t[0][REPEATS - 1],
+           t[1][REPEATS / 2], t[1][0], t[1][REPEATS - 1], t[0][REPEATS / 2] / t[1][REPEATS / 2]);
+}
+
+int main(int argc, char **argv) {
+    char line[512];
+    size_t n = 0;
+    FILE *f = argc == 2 ? fopen(argv[1], "r") : NULL;
+    if (!f) return 1;
+    while (n < MOST && fgets(line, sizeof line, f)) {
+        uint64_t *v = rec[n];
+        if (sscanf(line, "%" SCNu64 " %" SCNu64 " %" SCNu64 " %" SCNu64 " %" SCNu64 " %" SCNu64 " %" SCNu64 " %" SCNu64 " %" SCNu64 " %" SCNu64,
+                   v, v + 1, v + 2, v + 3, v + 4, v + 5, v + 6, v + 7, v + 8, v + 9) == 10 && exact(v) > 10)
+            n++;
+    }
+    printf("%-24s %6s %10s %18s %8s %16s\n", "ns a record", "", "exact", "", "double", "ratio");
+    run("all three stresses", 7, n);
+    run("axial alone", 1, n);
+    run("ring alone", 2, n);
+    run("shear alone", 4, n);
+    run("no stress", 0, n);
+    return 0;
+}

@@ -1,0 +1,82 @@
+-- The three stresses by their kind: what the code's pieces give is the rule of cylinder's Search. Assumes nothing.
+use mathlib.Core.Path.{_≡_, refl, sym, ap, _∙_}
+use mathlib.Core.Bool.{Bool, true, false, _&&_}
+use mathlib.Core.Logic.{_≢_}
+use Prim.Native.Nat.{ℕ, zero, suc, _+_, _≤_}
+use native.Mathlib.Omega.{arith}
+use lib.Dec.{leb}
+use borrow.Author.Tests.{leb-true}
+use Rattle.cylinder.specs.declared.Shell.{Shell}
+use Rattle.cylinder.specs.declared.Stress.{Stress}
+use Rattle.cylinder.specs.declared.Stress.the-variants.{Axial, Ring, Shear}
+use Rattle.cylinder.specs.Fraction.{Fraction, _//_}
+use Rattle.cylinder.specs.Number.{pick}
+use Rattle.cylinder.specs.Cut.{Cut}
+use Rattle.cylinder.specs.WholeTerm.{Term, formula}
+use Rattle.cylinder.specs.WholeStress.{excess}
+use Rattle.cylinder.specs.Search.{grid, place, most, bounds}
+use Rattle.cylinder.proofs.Search.{most-edge}
+use Rattle.cylinder.proofs.Tests.{and-true}
+use Rattle.ideal.specs.Decision.{cutOf}
+use Rattle.slenderness.specs.Highest.{shortOf}
+use Rattle.slenderness.specs.Sides.{Sides}
+use Rattle.slenderness.specs.declared.Limits.{Limits}
+use Rattle.term.specs.TermOf.{termOf, Lies1, Lies2}
+use Rattle.term.specs.declared.Branches.{Branches}
+use Rattle.term.proofs.Terms as terms
+use Rattle.bounds.specs.Stresses.{slendernessOf, termFor, lowOf, Reads}
+
+-- the branch by length is that of the slenderness
+pub cut-is : (kind : Stress) (short : Bool) (s : Shell) → short ≡ shortOf kind s → cutOf kind short s ≡ slendernessOf kind s
+cut-is Axial short s e = rw e
+cut-is Ring short s e = rw e
+cut-is Shear short s e = rw e
+
+-- the term in the branches that were read is the shell's
+pub term-is : (kind : Stress) (s : Shell) (num den : ℕ) (l : Limits) (b : Branches) → Sides (slendernessOf kind s) l → Reads kind l b →
+    termOf kind b (s .«yield_stress») num den (excess s) ≡ termFor kind s (num // den)
+term-is Axial s num den l b a r =
+    terms.axial-is s (num // den) b
+    (record {
+      part = r .part ∙ rw (a .within-quarter, a .within-one, a .within-three-halves);
+      long = r .long ∙ a .reaches-three-halves;
+      near = r .near ∙ a .within-quarter;
+      far = r .far ∙ a .reaches-two;
+    })
+term-is Ring s num den l b a r =
+    terms.ring-is s (num // den) b
+    (record { part = r .part ∙ rw (a .within-two-fifths, a .reaches-six-fifths); long = r .long ∙ a .reaches-three-halves })
+term-is Shear s num den l b a r =
+    terms.shear-is s (num // den) b
+    (record { part = r .part ∙ rw (a .within-two-fifths, a .reaches-six-fifths); long = r .long ∙ a .reaches-three-halves })
+
+rise-some : (kind : Stress) (s : Shell) (σ : Fraction) → termFor kind s σ .rise ≢ 0
+rise-some Axial s σ e = omega arith
+rise-some Ring s σ e = omega arith
+rise-some Shear s σ e = omega arith
+
+-- a term is capped
+pub low-most : (kind : Stress) (s : Shell) (num den : ℕ) → lowOf kind s num den ≤ 2000000
+low-most kind s num den = leb-true b 2000000 (and-true (leb b 2000000) (formula t k q b 1000000) (most-edge t k q (rise-some kind s (num // den)) .passes) .0)
+  where
+    t : Term
+    t = termFor kind s (num // den)
+
+    q : ℕ
+    q = grid (slendernessOf kind s)
+
+    k : ℕ
+    k = place (slendernessOf kind s) q
+
+    b : ℕ
+    b = most t k q
+
+-- the bounds of a term, for a stress above 0 and for one of 0
+pub loaded : (n : ℕ) (c : Cut) (t : Term) → (n ≡ 0 → ⊥) → (most t (place c (grid c)) (grid c) ≡ bounds n c t .low) × (most t (place c (grid c)) (grid c) + 2 ≡ bounds n c t .high)
+unfolding bounds
+loaded zero c t ne = absurd (ne refl)
+loaded (suc n) c t ne = (refl, refl)
+
+pub unloaded : (n : ℕ) (c : Cut) (t : Term) → n ≡ 0 → (0 ≡ bounds n c t .low) × (0 ≡ bounds n c t .high)
+unfolding bounds
+unloaded n c t e = rw e (refl, refl)

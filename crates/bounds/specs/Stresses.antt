@@ -1,0 +1,63 @@
+-- The three stresses by their kind: one rule for each of slenderness, term and bounds, over the whole-number forms of cylinder's specs.
+-- Nobody has to believe these forms: cylinder's proofs/Judge.antt has that the bounds are right.
+use mathlib.Core.Path.{_≡_}
+use mathlib.Core.Bool.{Bool}
+use Prim.Native.Nat.{ℕ, _<_}
+use Rattle.wide.specs.Value.{base}
+use Rattle.cylinder.specs.declared.Shell.{Shell}
+use Rattle.cylinder.specs.declared.Stress.{Stress}
+use Rattle.cylinder.specs.declared.Stress.the-variants.{Axial, Ring, Shear}
+use Rattle.cylinder.specs.Fraction.{Fraction, _//_}
+use Rattle.cylinder.specs.Number.{pick}
+use Rattle.cylinder.specs.Cut.{Cut}
+use Rattle.cylinder.specs.WholeIdeal.{axialS, ringS, shearS}
+use Rattle.cylinder.specs.WholeCurves as curves
+use Rattle.cylinder.specs.WholeTerm.{Term}
+use Rattle.cylinder.specs.WholeStress.{axialTerm, ringTerm, shearTerm}
+use Rattle.cylinder.specs.Search.{grid, place, most, Pair, bounds}
+use Rattle.slenderness.specs.declared.Limits.{Limits}
+use Rattle.term.specs.declared.Branches.{Branches}
+use Rattle.bounds.specs.declared.Load.{Load}
+pub use Rattle.term.specs.TermOf.{partOf}
+
+-- the branches that the answers at the limits give: of κ1, and of κ2
+abbrev pub part1Of : Limits → curves.Part
+part1Of l = pick (l .«within_two_fifths») curves.plateau (pick (l .«reaches_six_fifths») curves.quadratic curves.line)
+
+abbrev pub part2Of : Limits → curves.Part
+part2Of l = pick (l .«within_quarter») curves.plateau (pick (l .«within_one») curves.line (pick (l .«within_three_halves») curves.cubic curves.quadratic))
+
+abbrev pub partFor : Stress → Limits → curves.Part
+partFor Axial l = part2Of l
+partFor Ring l = part1Of l
+partFor Shear l = part1Of l
+
+pub record Reads (kind : Stress) (l : Limits) (b : Branches) : Type 0 where
+  pub part : partOf (b .part) ≡ partFor kind l
+  pub long : b .long ≡ l .«reaches_three_halves»
+  pub near : b .near ≡ l .«within_quarter»
+  pub far : b .far ≡ l .«reaches_two»
+
+-- a stress whose parts are below 2³²
+abbrev pub Small : Load → Type 0
+Small l = (l .num < base) × (l .den < base)
+
+abbrev pub fractionOf : Load → Fraction
+fractionOf l = l .num // l .den
+
+abbrev pub slendernessOf : Stress → Shell → Cut
+slendernessOf Axial s = axialS s
+slendernessOf Ring s = ringS s
+slendernessOf Shear s = shearS s
+
+abbrev pub termFor : Stress → Shell → Fraction → Term
+termFor Axial s σ = axialTerm s σ
+termFor Ring s σ = ringTerm s σ
+termFor Shear s σ = shearTerm s σ
+
+-- the term of a stress above 0, from below, in millionths
+abbrev pub lowOf : Stress → Shell → ℕ → ℕ → ℕ
+lowOf kind s num den = let c : Cut = slendernessOf kind s in most (termFor kind s (num // den)) (place c (grid c)) (grid c)
+
+abbrev pub pairOf : Stress → Shell → Load → Pair
+pairOf kind s l = bounds (l .num) (slendernessOf kind s) (termFor kind s (fractionOf l))

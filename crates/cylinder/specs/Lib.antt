@@ -1,0 +1,16 @@
+-- To be believed, beside document 01: Fraction, Number, Ideal, Resistance, Sum, Within, Trial.
+pub mod Fraction
+pub mod Number
+pub mod Ideal
+pub mod Resistance
+pub mod Sum
+pub mod Within
+pub mod Trial
+-- Nobody has to believe these, since proofs/ says what they give: the same in whole numbers, to compute with.
+pub mod Cut
+pub mod Factor
+pub mod WholeIdeal
+pub mod WholeCurves
+pub mod WholeTerm
+pub mod WholeStress
+pub mod Search

@@ -1,0 +1,50 @@
+-- The grid, the search on it, and the bounds L and U.
+-- Nobody has to believe these definitions: proofs/Judge.antt has that the bounds are right.
+use Prim.Native.Nat.{ℕ, zero, suc, _+_, _/_, min}
+use mathlib.Core.Bool.{_&&_}
+use lib.Dec.{leb}
+use Rattle.algebra.specs.Bisection.{bisect}
+use Rattle.cylinder.specs.declared.Shell.{Shell}
+use Rattle.cylinder.specs.Fraction.{Fraction}
+use Rattle.cylinder.specs.Number.{pick}
+use Rattle.cylinder.specs.Cut.{Cut}
+use Rattle.cylinder.specs.WholeIdeal.{axialS, ringS, shearS}
+use Rattle.cylinder.specs.WholeTerm.{Term, formula}
+use Rattle.cylinder.specs.WholeStress.{axialTerm, ringTerm, shearTerm}
+
+-- A slenderness is placed on the points k/q: finer below 2, where the curves are steep. The limits of all branches are such points.
+unfoldable pub grid : Cut → ℕ
+grid s = pick (s .reaches 2 1) 8000000 200000000
+
+-- the largest k such that s reaches k/q; it is below 2³² since each slenderness is below 536
+unfoldable pub place : Cut → ℕ → ℕ
+unfolding bisect
+place s q = bisect (λ k. s .reaches k q) 32 0 4294967296
+
+-- the largest b up to 2,000,000 such that the formula at p/q reaches b/1,000,000
+unfoldable pub most : Term → ℕ → ℕ → ℕ
+unfolding bisect
+most t p q = bisect (λ b. leb b 2000000 && formula t p q b 1000000) 21 0 2000001
+
+pub record Pair : Type 0 where
+  pub low : ℕ
+  pub high : ℕ
+
+-- One step of the grid changes a term by less than 2 millionths, so nothing is worked at (k + 1)/q.
+abbrev pub around : ℕ → Pair
+around b = record { low = b; high = b + 2 }
+
+-- a term in millionths; the first number is the numerator of its stress
+unfoldable pub bounds : ℕ → Cut → Term → Pair
+unfolding grid place most
+bounds zero s t = record { low = 0; high = 0 }
+bounds (suc x) s t = let q : ℕ = grid s in around (most t (place s q) q)
+
+-- L and U, in ten-thousandths
+unfoldable pub judge : Shell → Fraction → Fraction → Fraction → Pair
+unfolding bounds
+judge s σx σφ τ =
+    let a : Pair = bounds (σx .num) (axialS s) (axialTerm s σx) in
+    let r : Pair = bounds (σφ .num) (ringS s) (ringTerm s σφ) in
+    let h : Pair = bounds (τ .num) (shearS s) (shearTerm s τ) in
+    record { low = min 20000 ((a .low + r .low + h .low) / 100); high = min 20000 ((a .high + r .high + h .high + 99) / 100) }

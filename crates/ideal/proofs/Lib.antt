@@ -1,0 +1,4 @@
+-- The laws.
+pub mod Fits
+pub mod Decision
+pub mod Rows

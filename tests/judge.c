@@ -1,0 +1,18 @@
+/* Passes each line of ten numbers on standard input to the C call and prints the line with the answer behind it. */
+#include <inttypes.h>
+#include <stdint.h>
+#include <stdio.h>
+
+uint64_t shell_judge(uint64_t r, uint64_t t, uint64_t l, uint64_t e, uint64_t fy, uint64_t edges, uint64_t a,
+                     uint64_t sx, uint64_t sphi, uint64_t tau);
+
+int main(void) {
+    uint64_t v[10];
+    for (;;) {
+        for (int i = 0; i < 10; i++)
+            if (scanf("%" SCNu64, &v[i]) != 1) return i != 0;
+        uint64_t n = shell_judge(v[0], v[1], v[2], v[3], v[4], v[5], v[6], v[7], v[8], v[9]);
+        for (int i = 0; i < 10; i++) printf("%" PRIu64 " ", v[i]);
+        printf("| %" PRIu64 "\n", n);
+    }
+}
