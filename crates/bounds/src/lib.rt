@@ -31,9 +31,9 @@ fn is_short(kind: Stress, s: Shell) -> bool
     ensures { λ r. ⌜ r ≡ shortOf kind s ⌝ }
 {
     match kind {
-        Stress::Axial => ideal::axial_short(s),
-        Stress::Ring => ideal::ring_short(s),
-        Stress::Shear => ideal::shear_short(s),
+        Stress::Axial => lengths::axial_short(s),
+        Stress::Ring => lengths::ring_short(s),
+        Stress::Shear => lengths::shear_short(s),
     }
 }
 

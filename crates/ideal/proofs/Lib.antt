@@ -1,4 +1,3 @@
 -- The laws.
-pub mod Fits
 pub mod Decision
 pub mod Rows

@@ -54,7 +54,7 @@ fn ring_short_highest(s: Shell, q: u64, cap: u64) -> u64
     requires { ⌜ cap < base ⌝ }
     ensures { λ r. ⌜ Highest (ringShortS s) q cap r ⌝ }
 {
-    let c = ideal::ring_edges(s.edges);
+    let c = lengths::ring_edges(s.edges);
     let e = s.modulus;
     let w = s.wall;
     let l = s.length;
@@ -73,7 +73,7 @@ fn ring_long_highest(s: Shell, q: u64, cap: u64) -> u64
     requires { ⌜ cap < base ⌝ }
     ensures { λ r. ⌜ Highest (ringLongS s) q cap r ⌝ }
 {
-    let c = ideal::ring_edges(s.edges);
+    let c = lengths::ring_edges(s.edges);
     let e = s.modulus;
     let r = s.radius;
     let l = s.length;
@@ -118,7 +118,7 @@ fn rough_root(s: Shell) -> u64 {
 
 // A guess at S for axial stress, long, where Cx falls with the length: √(d q²/(c - e √(w/(200 r)))).
 fn bent_guess(s: Shell, q: u64) -> u64 {
-    let h = ideal::eta(s.edges);
+    let h = lengths::eta(s.edges);
     let e = s.modulus;
     let w = s.wall;
     let r = s.radius;

@@ -1,8 +1,8 @@
--- `ideal::ring_edges` meets its contract. Assumes nothing.
+-- `lengths::ring_edges` meets its contract. Assumes nothing.
 use lib.Dec.{eqb, lit≤}
 use borrow.Author.Tests.{eq-eqb, ne-eqb}
-use Rattle.ideal.proofs.ring_edges.Statement.{statement}
-use Rattle.ideal.proofs.ring_edges.Tie as tie
+use Rattle.lengths.proofs.ring_edges.Statement.{statement}
+use Rattle.lengths.proofs.ring_edges.Tie as tie
 
 returns : tie.Need-returns
 returns c = (rw (eq-eqb (c .before .args .edges) 11 (c .if1 .taken)), lit≤ tt, lit≤ tt)

@@ -1,8 +1,8 @@
--- `ideal::eta` meets its contract. Assumes nothing.
+-- `lengths::eta` meets its contract. Assumes nothing.
 use lib.Dec.{eqb, lit≤}
 use borrow.Author.Tests.{eq-eqb, ne-eqb}
-use Rattle.ideal.proofs.eta.Statement.{statement}
-use Rattle.ideal.proofs.eta.Tie as tie
+use Rattle.lengths.proofs.eta.Statement.{statement}
+use Rattle.lengths.proofs.eta.Tie as tie
 
 returns : tie.Need-returns
 returns c = (rw (eq-eqb (c .before .args .edges) 11 (c .if1 .taken)), lit≤ tt)

@@ -1,10 +1,10 @@
--- `ideal::ring_short` meets its contract. Assumes nothing.
+-- `lengths::ring_short` meets its contract. Assumes nothing.
 use native.Mathlib.Omega.{arith}
 use borrow.Author.Needs.{needs}
 use Rattle.cylinder.specs.WholeIdeal.{ringEdges}
-use Rattle.ideal.proofs.Fits.{length-two, length-wall, edges-two, edges-radius, edges-radius-two, edges-radius-three, short-from, ring-test}
-use Rattle.ideal.proofs.ring_short.Statement.{statement}
-use Rattle.ideal.proofs.ring_short.Tie as tie
+use Rattle.lengths.proofs.Fits.{length-two, length-wall, edges-two, edges-radius, edges-radius-two, edges-radius-three, short-from, ring-test}
+use Rattle.lengths.proofs.ring_short.Statement.{statement}
+use Rattle.lengths.proofs.ring_short.Tie as tie
 
 returns : tie.Need-returns
 returns c = short-from (c .before .args .s) (c .before .pre) (c .if1 .taken)

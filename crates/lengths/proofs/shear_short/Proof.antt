@@ -1,8 +1,8 @@
--- `ideal::axial_short` meets its contract. Assumes nothing.
+-- `lengths::shear_short` meets its contract. Assumes nothing.
 use native.Mathlib.Omega.{arith}
-use Rattle.ideal.proofs.Fits.{length-two, length-wall, radius-two, radius-three, length-test}
-use Rattle.ideal.proofs.axial_short.Statement.{statement}
-use Rattle.ideal.proofs.axial_short.Tie as tie
+use Rattle.lengths.proofs.Fits.{length-two, length-wall, radius-two, radius-three, length-test}
+use Rattle.lengths.proofs.shear_short.Statement.{statement}
+use Rattle.lengths.proofs.shear_short.Tie as tie
 
 mul-result : tie.Need-mul-result
 mul-result c = omega (arith, length-two (c .args .s) (c .pre))
@@ -20,8 +20,8 @@ mul-result-5 : tie.Need-mul-result-5
 mul-result-5 c = omega (arith, radius-three (c .before .args .s) (c .before .pre))
 
 returns : tie.Need-returns
-returns c = let s = c .before .args .s in length-test 50 (s .length) (s .wall) (s .radius)
+returns c = let s = c .before .args .s in length-test 15138 (s .length) (s .wall) (s .radius)
 
-pub axial-short-spec : {M : Type 1} → statement M
-axial-short-spec =
+pub shear-short-spec : {M : Type 1} → statement M
+shear-short-spec =
     tie.close (tie.spec mul-result mul-result-2 mul-result-3 mul-result-4 mul-result-5 returns)

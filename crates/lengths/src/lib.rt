@@ -1,0 +1,66 @@
+// The edges' factors of tables 1 and 2, and the length tests: whether a cylinder is short for a stress, decided exactly.
+ghost use mathlib.Core.Path.{_≡_};
+ghost use Prim.Native.Nat.{_≤_};
+ghost use Rattle.cylinder.specs.Within.{Within};
+ghost use Rattle.cylinder.specs.WholeIdeal.{eta as etaOf, ringEdges, axialShort, ringShort, shearShort};
+use cylinder::Shell;
+
+// η of table 1.
+pub fn eta(edges: u64) -> u64
+    ensures { λ r. ⌜ (r ≡ etaOf edges) × (r ≤ 6) ⌝ }
+{
+    if edges == 11 {
+        return 6;
+    }
+    if edges == 12 {
+        return 3;
+    }
+    1
+}
+
+// Four times Cφ of table 2.
+pub fn ring_edges(edges: u64) -> u64
+    ensures { λ r. ⌜ (r ≡ ringEdges edges) × (4 ≤ r) × (r ≤ 6) ⌝ }
+{
+    if edges == 11 {
+        return 6;
+    }
+    if edges == 12 {
+        return 5;
+    }
+    4
+}
+
+// Whether the cylinder is short for axial stress.
+pub fn axial_short(s: Shell) -> bool
+    requires { ⌜ Within s ⌝ }
+    ensures { λ r. ⌜ r ≡ axialShort s ⌝ }
+{
+    let l = s.length;
+    let r = s.radius;
+    l * l * s.wall <= 50 * r * r * r
+}
+
+// Whether the cylinder is short for ring stress: for a radius from 11,500 on it always is.
+pub fn ring_short(s: Shell) -> bool
+    requires { ⌜ Within s ⌝ }
+    ensures { λ r. ⌜ r ≡ ringShort s ⌝ }
+{
+    let l = s.length;
+    let r = s.radius;
+    if 11500 <= r {
+        return true;
+    }
+    let c = ring_edges(s.edges);
+    800 * l * l * s.wall <= 26569 * c * c * r * r * r
+}
+
+// Whether the cylinder is short for shear.
+pub fn shear_short(s: Shell) -> bool
+    requires { ⌜ Within s ⌝ }
+    ensures { λ r. ⌜ r ≡ shearShort s ⌝ }
+{
+    let l = s.length;
+    let r = s.radius;
+    l * l * s.wall <= 15138 * r * r * r
+}
