@@ -1,0 +1,4 @@
+pub mod Laws
+pub mod Inverse
+pub mod Answers
+pub mod Examples

@@ -1,0 +1,30 @@
+use borrow.Author.Needs.{needs}
+use Rattle.line.proofs.answer.Statement.{statement}
+use Rattle.line.proofs.answer.Tie as tie
+use Rattle.line.proofs.Answers.{answer-long, answer-other, answer-read}
+
+returns : tie.Need-returns
+returns c = answer-long _ (c .if1 .taken)
+
+read-requires : tie.Need-read-requires
+read-requires c κs = search needs
+
+enum-known-c : tie.Need-enum-known-c
+enum-known-c c = search needs
+
+enum-told : tie.Need-enum-told
+enum-told c = search needs
+
+returns-2 : tie.Need-returns-2
+returns-2 c = answer-other _ (c .before .before .before .if1 .left) _ (c .before .before .read .ensures) (c .enum-told .given .1)
+
+answer-requires : tie.Need-answer-requires
+answer-requires c κs = search needs
+
+returns-3 : tie.Need-returns-3
+returns-3 c = answer-read _ (c .before .before .before .before .before .if1 .left) _ (c .before .before .before .before .read .ensures) _ (c .before .before .c .given .1) _ (c .answer .ensures)
+
+pub answer-spec : {M : Type 1} → statement M
+answer-spec =
+    tie.close
+    (tie.spec returns read-requires enum-known-c enum-told returns-2 answer-requires returns-3)

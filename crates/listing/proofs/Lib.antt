@@ -1,0 +1,4 @@
+pub mod Lengths
+pub mod Totals
+pub mod Turns
+pub mod Lines

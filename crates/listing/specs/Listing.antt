@@ -1,0 +1,108 @@
+-- Document 01, "The sheet": the listing of answers, a line for each and the total line.
+use Prim.Native.Nat.{ℕ, _+_}
+use mathlib.Core.Bool.{Bool, true, false}
+use mathlib.Core.List.{List, [], _∷_, _++_}
+use lib.ListN.{length}
+use Rattle.text.specs.Bytes.{ascii, pick, decimal}
+use Rattle.shell.specs.declared.Answer.{Answer}
+use Rattle.shell.specs.declared.Answer.the-variants.{Refused, Holds, Fails, Open}
+use Rattle.listing.specs.declared.Counts.{Counts}
+
+-- ---- a line for each answer
+
+-- what follows the line's number
+abbrev pub said : Answer → List ℕ
+said (Holds L U) = ascii " holds)"
+said (Fails L U) = ascii " fails)"
+said (Open L U) = ascii " open)"
+said (Refused n) = ascii " refused " ++ decimal n ++ ascii ")"
+
+-- "(k holds), (k fails), (k open) or (k refused N) for line k"
+unfoldable pub entry : ℕ → Answer → List ℕ
+entry k a = ascii "(" ++ decimal k ++ said a
+
+-- the lines for answers, counted from k
+unfoldable pub entries : ℕ → List Answer → List (List ℕ)
+entries k [] = []
+entries k (a ∷ answers) = entry k a ∷ entries (k + 1) answers
+
+-- ---- the total line
+
+abbrev pub isHolds : Answer → Bool
+isHolds (Holds L U) = true
+isHolds (Fails L U) = false
+isHolds (Open L U) = false
+isHolds (Refused n) = false
+
+abbrev pub isFails : Answer → Bool
+isFails (Holds L U) = false
+isFails (Fails L U) = true
+isFails (Open L U) = false
+isFails (Refused n) = false
+
+abbrev pub isOpen : Answer → Bool
+isOpen (Holds L U) = false
+isOpen (Fails L U) = false
+isOpen (Open L U) = true
+isOpen (Refused n) = false
+
+abbrev pub isRefused : Answer → Bool
+isRefused (Holds L U) = false
+isRefused (Fails L U) = false
+isRefused (Open L U) = false
+isRefused (Refused n) = true
+
+-- how many answers pass a test
+unfoldable pub count : (Answer → Bool) → List Answer → ℕ
+count p [] = 0
+count p (a ∷ answers) = pick (p a) 1 0 + count p answers
+
+-- "lines is n; holds, fails, open and refused are how many of the n answers are so"
+abbrev pub counts : List Answer → Counts
+counts answers =
+    record {
+      lines = length answers;
+      holds = count isHolds answers;
+      fails = count isFails answers;
+      opens = count isOpen answers;
+      refused = count isRefused answers;
+    }
+
+abbrev pub spaced : ℕ → List ℕ
+spaced n = ascii " " ++ decimal n
+
+-- "(total lines holds fails open refused) with the five counts"
+unfoldable pub total : Counts → List ℕ
+total c =
+    ascii "(total" ++ spaced (c .lines) ++ spaced (c .holds) ++ spaced (c .fails) ++ spaced (c .opens) ++ spaced (c .refused) ++ ascii ")"
+
+-- ---- the listing
+
+-- "Each listing line ends with a newline"
+abbrev pub ended : List ℕ → List ℕ
+ended line = line ++ ascii "\n"
+
+unfoldable pub joined : List (List ℕ) → List ℕ
+joined [] = []
+joined (line ∷ lines) = ended line ++ joined lines
+
+-- "The listing is the line for answer 1, then 2, up to n, then the total line, and nothing else"
+unfoldable pub listingOf : List Answer → List ℕ
+listingOf answers = joined (entries 1 answers) ++ ended (total (counts answers))
+
+-- ---- counting one answer after the other
+
+-- no answer yet
+abbrev pub noCounts : Counts
+noCounts = record { lines = 0; holds = 0; fails = 0; opens = 0; refused = 0 }
+
+-- counts with one more answer
+abbrev pub withAnswer : Counts → Answer → Counts
+withAnswer c a =
+    record {
+      lines = c .lines + 1;
+      holds = c .holds + pick (isHolds a) 1 0;
+      fails = c .fails + pick (isFails a) 1 0;
+      opens = c .opens + pick (isOpen a) 1 0;
+      refused = c .refused + pick (isRefused a) 1 0;
+    }

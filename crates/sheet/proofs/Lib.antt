@@ -1,0 +1,3 @@
+pub mod Verdicts
+pub mod Laws
+pub mod Demand3
