@@ -4,7 +4,7 @@
 #include <stdio.h>
 #include <stdlib.h>
 #include <string.h>
-#include <time.h>
+#include "timing.h"
 
 enum { LIMBS = 96, REPEATS = 15, ROUNDS = 200000 };
 
@@ -18,17 +18,6 @@ bool bench_sums_at_most(const uint64_t *f, size_t f_len, const uint64_t *g, size
 
 static uint64_t a[LIMBS], l[LIMBS], f[40], g[40];
 static volatile uint64_t sink;
-
-static double now(void) {
-    struct timespec t;
-    clock_gettime(CLOCK_MONOTONIC, &t);
-    return 1e9 * (double)t.tv_sec + (double)t.tv_nsec;
-}
-
-static int order(const void *x, const void *y) {
-    double a = *(const double *)x, b = *(const double *)y;
-    return a < b ? -1 : a > b;
-}
 
 /* a number of n limbs, each in use */
 static void number(size_t n) {

@@ -3,8 +3,8 @@
 #include <inttypes.h>
 #include <stdio.h>
 #include <stdlib.h>
-#include <time.h>
 #include "double.h"
+#include "timing.h"
 
 enum { REPEATS = 15, MOST = 4096 };
 
@@ -16,17 +16,6 @@ static volatile uint64_t sink;
 static volatile double dsink;
 
 static uint64_t exact(const uint64_t *v) { return shell_judge(v[0], v[1], v[2], v[3], v[4], v[5], v[6], v[7], v[8], v[9]); }
-
-static double now(void) {
-    struct timespec t;
-    clock_gettime(CLOCK_MONOTONIC, &t);
-    return 1e9 * (double)t.tv_sec + (double)t.tv_nsec;
-}
-
-static int order(const void *x, const void *y) {
-    double a = *(const double *)x, b = *(const double *)y;
-    return a < b ? -1 : a > b;
-}
 
 /* which: a mask of the stresses that are kept, 1 axial, 2 ring, 4 shear, of the records that have all three */
 static void run(const char *what, int which, size_t n) {
