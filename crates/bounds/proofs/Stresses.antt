@@ -18,7 +18,7 @@ use Rattle.cylinder.specs.Search.{grid, place, most, bounds}
 use Rattle.cylinder.proofs.Search.{most-edge}
 use Rattle.cylinder.proofs.Tests.{and-true}
 use Rattle.ideal.specs.Decision.{cutOf}
-use Rattle.slenderness.specs.Highest.{shortOf}
+use Rattle.slenderness.specs.Short.{shortOf}
 use Rattle.slenderness.specs.Sides.{Sides}
 use Rattle.slenderness.specs.declared.Limits.{Limits}
 use Rattle.term.specs.TermOf.{termOf, Lies1, Lies2}

@@ -5,7 +5,7 @@ ghost use Rattle.wide.specs.Value.{base};
 ghost use Rattle.cylinder.specs.Within.{Within};
 ghost use Rattle.cylinder.specs.WholeStress.{excess as excessOf};
 ghost use Rattle.cylinder.specs.Search.{judge};
-ghost use Rattle.slenderness.specs.Highest.{shortOf};
+ghost use Rattle.slenderness.specs.Short.{shortOf};
 ghost use Rattle.bounds.specs.Stresses.{part1Of, part2Of, partFor, partOf, Reads, Small, lowOf, pairOf, fractionOf};
 use cylinder::Shell;
 use cylinder::Stress;

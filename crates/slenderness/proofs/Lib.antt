@@ -1,5 +1,2 @@
 -- The laws.
-pub mod Searches
-pub mod Rows
-pub mod Curved
 pub mod Places

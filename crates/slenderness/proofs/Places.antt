@@ -19,7 +19,8 @@ use Rattle.cylinder.proofs.Search.{part, placed, place-is}
 use Rattle.cylinder.specs.declared.Stress.{Stress}
 use Rattle.cylinder.specs.declared.Stress.the-variants.{Axial, Ring, Shear}
 use Rattle.ideal.specs.Decision.{cutOf}
-use Rattle.slenderness.specs.Highest.{Highest, shortOf}
+use Rattle.reach.specs.Highest.{Highest}
+use Rattle.slenderness.specs.Short.{shortOf}
 
 -- ---- each slenderness is a number below 536
 

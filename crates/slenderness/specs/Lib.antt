@@ -1,2 +1,2 @@
-pub mod Highest
+pub mod Short
 pub mod Sides

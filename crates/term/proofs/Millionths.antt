@@ -46,17 +46,6 @@ squares f c a p q x y h k = rw (h, k, mul-pow c (f .num p q) 2, apart) (most-is 
     apart : 3 * (a * f .den p q) ^ 2 ≡ 3 * a ^ 2 * f .den p q ^ 2
     apart = rw (mul-pow a (f .den p q) 2) (omega arith)
 
--- at numbers in other words
-pub largest-at : (e cap : ℕ) {x x' y y' : ℕ} → x ≡ x' → y ≡ y' → largest e cap x y ≡ largest e cap x' y'
-largest-at e cap h k = rw (h, k)
-
--- times 10^12 twice, and times 3,000,000
-pub twice : {v w z y : ℕ} → v ≡ w * 1000000000000 → w ≡ z * 1000000000000 → z ≡ y → v ≡ y * 1000000 ^ 4
-twice e f g = omega arith
-
-pub thrice : {v w y : ℕ} → v ≡ w * 3000000 → w ≡ y → v ≡ 3 * y * 1000000
-thrice e f = omega arith
-
 -- the three stresses: x and y are the two sides of the comparison, before they are raised
 module _ (s : Stress) (b : Branches) (fy num den e k q x y : ℕ) (hx : x ≡ 10000 * fy * den * factorOf s b e .num k q) (hy : y ≡ 11 * num * factorOf s b e .den k q) where
   pub axial-most : s ≡ Axial → largest 4 2000000 (x ^ 5) (y ^ 5 * 1000000 ^ 4) ≡ most (termOf s b fy num den e) k q

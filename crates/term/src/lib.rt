@@ -2,17 +2,13 @@
 // resistance is the yield stress times the reduction factor κ, times the tolerance for the imperfection, over the
 // partial factor. Numerators and denominators are kept apart, as products of whole numbers, and compared exactly.
 ghost use mathlib.Core.Path.{_≡_};
-ghost use Prim.Native.Nat.{_+_, _-_, _*_, _≤_, _<_, _^_};
-ghost use lib.ListN.{length};
-ghost use Rattle.wide.specs.Value.{base, limbs, value, Limbs, Is};
+ghost use Prim.Native.Nat.{_-_, _*_, _≤_, _<_};
+ghost use Rattle.wide.specs.Value.{base};
 ghost use Rattle.factors.specs.Product.{prod};
-ghost use Rattle.roots.specs.Largest.{largest};
 ghost use Rattle.cylinder.specs.WholeCurves.{reduction1, reduction2, tolerance, safety};
 ghost use Rattle.cylinder.specs.Search.{most};
 ghost use Rattle.term.specs.TermOf.{partOf, factor1, factor2, factorOf, termOf};
 use cylinder::Stress;
-use roots::Degree;
-use wide::LIMBS;
 
 // The branch of the reduction factor κ.
 pub enum Part {
@@ -221,55 +217,19 @@ fn below(stress: Stress, b: Branches, e: u64, k: u64, q: u64) -> [u64; 4]
     }
 }
 
-// Sets the number to x times the product of four factors.
-fn scaled(l: &mut [u64; LIMBS], f: [u64; 4], x: u64) -> usize
-    requires { ⌜ length (now l) ≡ limbs ⌝ }
-    ensures { λ r. ⌜ Is (now (l .exit)) r 11 (x * prod f) ⌝ }
-{
-    let n = factors::product_of(l, &f);
-    product::times(l, n, x)
-}
-
-// How many millionths (y/x)^(5/4) reaches, up to 2,000,000.
-fn five_quarters(x: &[u64; LIMBS], n: usize, y: &[u64; LIMBS], m: usize) -> u64
-    requires { ⌜ (Limbs (now x) n) × (Limbs (now y) m) × (n ≤ 11) × (m ≤ 11) ⌝ }
-    ensures { λ r. ⌜ r ≡ largest 4 2000000 (value (now (x .entry)) n ^ 5) (value (now (y .entry)) m ^ 5 * 1000000 ^ 4) ⌝ }
-{
-    let mut a = [0u64; LIMBS];
-    let i = product::fifth_power(&mut a, x, n);
-    let mut b = [0u64; LIMBS];
-    let j = product::fifth_power(&mut b, y, m);
-    let t = product::times(&mut b, j, 1000000000000);
-    let u = product::times(&mut b, t, 1000000000000);
-    roots::root(&a, i, &b, u, Degree::Four, 2000000)
-}
-
-// How many millionths 3 (y/x)² reaches, up to 2,000,000.
-fn three_squares(x: &[u64; LIMBS], n: usize, y: &[u64; LIMBS], m: usize) -> u64
-    requires { ⌜ (Limbs (now x) n) × (Limbs (now y) m) × (n ≤ 11) × (m ≤ 11) ⌝ }
-    ensures { λ r. ⌜ r ≡ largest 1 2000000 (value (now (x .entry)) n ^ 2) (3 * value (now (y .entry)) m ^ 2 * 1000000) ⌝ }
-{
-    let mut a = [0u64; LIMBS];
-    let i = product::square(&mut a, x, n);
-    let mut b = [0u64; LIMBS];
-    let j = product::square(&mut b, y, m);
-    let t = product::times(&mut b, j, 3000000);
-    roots::root(&a, i, &b, t, Degree::One, 2000000)
-}
-
 // The low bound of a stress's term at the slenderness k/q: how many millionths it reaches, up to 2,000,000.
 // The stress is num/den kN/m², the yield stress fy N/mm², the imperfection e thousandths over the permitted one.
 pub fn low(stress: Stress, b: Branches, fy: u64, num: u64, den: u64, e: u64, k: u64, q: u64) -> u64
     requires { ⌜ (fy ≤ 700) × (num < base) × (den < base) × (e ≤ 1000) × (k < base) × (q ≤ 200000000) ⌝ }
     ensures { λ r. ⌜ r ≡ most (termOf stress b fy num den e) k q ⌝ }
 {
-    let mut x = [0u64; LIMBS];
-    let n = scaled(&mut x, above(stress, b, e, k, q), 10000 * fy * den);
-    let mut y = [0u64; LIMBS];
-    let m = scaled(&mut y, below(stress, b, e, k, q), 11 * num);
+    let f = above(stress, b, e, k, q);
+    let x = 10000 * fy * den;
+    let g = below(stress, b, e, k, q);
+    let y = 11 * num;
     match stress {
-        Stress::Axial => five_quarters(&x, n, &y, m),
-        Stress::Ring => five_quarters(&x, n, &y, m),
-        Stress::Shear => three_squares(&x, n, &y, m),
+        Stress::Axial => millionths::five_quarters(f, x, g, y),
+        Stress::Ring => millionths::five_quarters(f, x, g, y),
+        Stress::Shear => millionths::three_squares(f, x, g, y),
     }
 }

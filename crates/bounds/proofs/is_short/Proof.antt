@@ -2,7 +2,7 @@
 use mathlib.Core.Path.{sym, ap, _∙_}
 use borrow.Author.Needs.{needs}
 use Rattle.cylinder.specs.declared.Stress.{Stress}
-use Rattle.slenderness.specs.Highest.{shortOf}
+use Rattle.slenderness.specs.Short.{shortOf}
 use Rattle.bounds.proofs.is_short.Statement.{statement}
 use Rattle.bounds.proofs.is_short.Tie as tie
 

@@ -1,0 +1,112 @@
+// How many millionths a power of a fraction reaches, the fraction given by factors above and below: by bounds, where these
+// settle it, else by exact comparisons.
+ghost use mathlib.Core.Path.{_≡_};
+ghost use mathlib.Core.Bool.{true};
+ghost use Prim.Native.Nat.{ℕ, _*_, _≤_, _^_};
+ghost use lib.ListN.{length};
+ghost use Rattle.wide.specs.Value.{limbs, value, Limbs, Is};
+ghost use Rattle.factors.specs.Product.{prod};
+ghost use Rattle.near.specs.Around.{Around};
+ghost use Rattle.roots.specs.Largest.{largest};
+use near::Near;
+use roots::Degree;
+use search::Found;
+use wide::LIMBS;
+
+// Bounds of x times the product of four factors.
+fn bounds(f: [u64; 4], x: u64) -> Near
+    ensures { λ r. ⌜ Around r (x * prod f) ⌝ }
+{
+    near::times(near::of(x), search::bounds_of(&f))
+}
+
+// Bounds of a fifth power.
+fn fifth(x: Near) -> Near
+    ensures { λ r. ⌜ ((n : ℕ) → Around x n → Around r (n ^ 5)) ⌝ }
+{
+    let s = near::times(x, x);
+    near::times(near::times(s, s), x)
+}
+
+// Sets the number to x times the product of four factors.
+fn scaled(l: &mut [u64; LIMBS], f: [u64; 4], x: u64) -> usize
+    requires { ⌜ length (now l) ≡ limbs ⌝ }
+    ensures { λ r. ⌜ Is (now (l .exit)) r 11 (x * prod f) ⌝ }
+{
+    let n = factors::product_of(l, &f);
+    product::times(l, n, x)
+}
+
+// How many millionths (y/x)^(5/4) reaches, up to 2,000,000.
+fn exact_quarters(x: &[u64; LIMBS], n: usize, y: &[u64; LIMBS], m: usize) -> u64
+    requires { ⌜ (Limbs (now x) n) × (Limbs (now y) m) × (n ≤ 11) × (m ≤ 11) ⌝ }
+    ensures { λ r. ⌜ r ≡ largest 4 2000000 (value (now (x .entry)) n ^ 5) (value (now (y .entry)) m ^ 5 * 1000000 ^ 4) ⌝ }
+{
+    let mut a = [0u64; LIMBS];
+    let i = product::fifth_power(&mut a, x, n);
+    let mut b = [0u64; LIMBS];
+    let j = product::fifth_power(&mut b, y, m);
+    let t = product::times(&mut b, j, 1000000000000);
+    let u = product::times(&mut b, t, 1000000000000);
+    roots::root(&a, i, &b, u, Degree::Four, 2000000)
+}
+
+// How many millionths 3 (y/x)² reaches, up to 2,000,000.
+fn exact_squares(x: &[u64; LIMBS], n: usize, y: &[u64; LIMBS], m: usize) -> u64
+    requires { ⌜ (Limbs (now x) n) × (Limbs (now y) m) × (n ≤ 11) × (m ≤ 11) ⌝ }
+    ensures { λ r. ⌜ r ≡ largest 1 2000000 (value (now (x .entry)) n ^ 2) (3 * value (now (y .entry)) m ^ 2 * 1000000) ⌝ }
+{
+    let mut a = [0u64; LIMBS];
+    let i = product::square(&mut a, x, n);
+    let mut b = [0u64; LIMBS];
+    let j = product::square(&mut b, y, m);
+    let t = product::times(&mut b, j, 3000000);
+    roots::root(&a, i, &b, t, Degree::One, 2000000)
+}
+
+// How many millionths (y/x)^(5/4) reaches, up to 2,000,000, if bounds of x and y settle it.
+fn settled_quarters(x: Near, y: Near) -> Found
+    ensures { λ r. ⌜ (r .known ≡ true → (n m : ℕ) → Around x n → Around y m → r .at ≡ largest 4 2000000 (n ^ 5) (m ^ 5 * 1000000 ^ 4)) ⌝ }
+{
+    let t = near::of(1000000000000);
+    let y5 = near::times(near::times(fifth(y), t), t);
+    search::settled(fifth(x), y5, Degree::Four, 2000000)
+}
+
+// How many millionths 3 (y/x)² reaches, up to 2,000,000, if bounds of x and y settle it.
+fn settled_squares(x: Near, y: Near) -> Found
+    ensures { λ r. ⌜ (r .known ≡ true → (n m : ℕ) → Around x n → Around y m → r .at ≡ largest 1 2000000 (n ^ 2) (3 * m ^ 2 * 1000000)) ⌝ }
+{
+    let y2 = near::times(near::times(y, y), near::of(3000000));
+    search::settled(near::times(x, x), y2, Degree::One, 2000000)
+}
+
+// How many millionths (y g/(x f))^(5/4) reaches, up to 2,000,000, with the products of f and g.
+pub fn five_quarters(f: [u64; 4], x: u64, g: [u64; 4], y: u64) -> u64
+    ensures { λ r. ⌜ r ≡ largest 4 2000000 ((x * prod f) ^ 5) ((y * prod g) ^ 5 * 1000000 ^ 4) ⌝ }
+{
+    let s = settled_quarters(bounds(f, x), bounds(g, y));
+    if s.known {
+        return s.at;
+    }
+    let mut a = [0u64; LIMBS];
+    let n = scaled(&mut a, f, x);
+    let mut b = [0u64; LIMBS];
+    let m = scaled(&mut b, g, y);
+    exact_quarters(&a, n, &b, m)
+}
+
+// How many millionths 3 (y g/(x f))² reaches, up to 2,000,000, with the products of f and g.
+pub fn three_squares(f: [u64; 4], x: u64, g: [u64; 4], y: u64) -> u64
+    ensures { λ r. ⌜ r ≡ largest 1 2000000 ((x * prod f) ^ 2) (3 * (y * prod g) ^ 2 * 1000000) ⌝ }
+{
+    let s = settled_squares(bounds(f, x), bounds(g, y));
+    if s.known {
+        return s.at;
+    }
+    let mut a = [0u64; LIMBS];
+    let n = scaled(&mut a, f, x);
+    let mut b = [0u64; LIMBS];
+    let m = scaled(&mut b, g, y);
+    exact_squares(&a, n, &b, m)
+}

@@ -1,0 +1,5 @@
+-- The laws.
+pub mod Searches
+pub mod Rows
+pub mod Curved
+pub mod Seen

@@ -1,0 +1,96 @@
+-- `reach::bent_reaches` meets its contract. Assumes nothing.
+use mathlib.Core.Path.{_∙_}
+use Prim.Native.Nat.{ℕ, _*_, _<_}
+use native.Mathlib.Omega.{arith}
+use borrow.Author.Needs.{needs}
+use Rattle.wide.specs.Value.{base}
+use Rattle.wide.proofs.Carry.{fits}
+use Rattle.reach.proofs.Seen.{bent-reached, bent-missed}
+use Rattle.reach.proofs.bent_reaches.Statement.{statement}
+use Rattle.reach.proofs.bent_reaches.Tie as tie
+
+-- the square of a number below 2^32 fits
+square : (p : ℕ) → p < base → p * p < 18446744073709551616
+square p h = omega (arith, fits p p 0 0 h h (omega arith) (omega arith))
+
+mul-of : tie.Need-mul-of
+mul-of c = omega (arith, square _ (c .pre .1))
+
+of-requires : tie.Need-of-requires
+of-requires c κs = search needs
+
+times-requires : tie.Need-times-requires
+times-requires c κs = search needs
+
+minus-requires : tie.Need-minus-requires
+minus-requires c κs = search needs
+
+times-requires-2 : tie.Need-times-requires-2
+times-requires-2 c κs = search needs
+
+mul-squares-below : tie.Need-mul-squares-below
+mul-squares-below c = search needs
+
+squares-below-requires : tie.Need-squares-below-requires
+squares-below-requires c κs = search needs
+
+returns : tie.Need-returns
+returns c =
+    let y = c .before in
+    let t = y .before .before in
+    let u = t .before in
+    let v = u .before in
+    let o = v .before in
+    let b = o .before in
+    let k = b .pre .2 in
+    let d = u .minus .ensures _ _ (v .times .ensures _ _ (k .for-c) (o .of .ensures)) (k .for-d) in
+    let e = t .times2 .ensures _ _ (k .for-e) (o .of .ensures) in
+    bent-reached (b .args .s) (b .args .p) (b .args .q) (y .squares-below .ensures (c .if1 .taken) _ _ d e)
+
+mul-squares-below-2 : tie.Need-mul-squares-below-2
+mul-squares-below-2 c = search needs
+
+squares-below-requires-2 : tie.Need-squares-below-requires-2
+squares-below-requires-2 c κs = search needs
+
+returns-2 : tie.Need-returns-2
+returns-2 c =
+    let z = c .before in
+    let y = z .before .before .before in
+    let t = y .before .before in
+    let u = t .before in
+    let v = u .before in
+    let o = v .before in
+    let b = o .before in
+    let k = b .pre .2 in
+    let d = u .minus .ensures _ _ (v .times .ensures _ _ (k .for-c) (o .of .ensures)) (k .for-d) in
+    let e = t .times2 .ensures _ _ (k .for-e) (o .of .ensures) in
+    bent-missed (b .args .s) (b .args .p) (b .args .q) (z .squares-below2 .ensures (c .if2 .taken) _ _ e d)
+
+axial-bent-order-requires : tie.Need-axial-bent-order-requires
+axial-bent-order-requires c κs = search needs
+
+is-at-most-requires : tie.Need-is-at-most-requires
+is-at-most-requires c κs = search needs
+
+returns-3 : tie.Need-returns-3
+returns-3 c = c .is-at-most .ensures ∙ c .before .axial-bent-order .ensures .reaches
+
+pub bent-reaches-spec : {M : Type 1} → statement M
+bent-reaches-spec =
+    tie.close
+    (tie.spec
+    mul-of
+    of-requires
+    times-requires
+    minus-requires
+    times-requires-2
+    mul-squares-below
+    squares-below-requires
+    returns
+    mul-squares-below-2
+    squares-below-requires-2
+    returns-2
+    axial-bent-order-requires
+    is-at-most-requires
+    returns-3)
