@@ -17,11 +17,11 @@ all: program $(archive)
 # rt itself tells whether a crate has changed since it was proved
 program:
 	@mkdir -p target
-	@rt check shellsheet >target/check.log 2>&1 || { tail -n 40 target/check.log; exit 1; }
+	rt check shellsheet >target/check.log 2>&1 || { tail -n 40 target/check.log; exit 1; }
 
 # not so for an archive, which it proves and writes each time
 $(archive): $(sources) | program
-	@rt staticlib shell >target/staticlib.log 2>&1 || { rm -f $@; tail -n 40 target/staticlib.log; exit 1; }
+	rt staticlib shell >target/staticlib.log 2>&1 || { rm -f $@; tail -n 40 target/staticlib.log; exit 1; }
 	@touch $@
 
 install: all
