@@ -1,10 +1,7 @@
 /* Passes each line of ten numbers on standard input to the C call and prints the line with the answer behind it. */
 #include <inttypes.h>
-#include <stdint.h>
 #include <stdio.h>
-
-uint64_t shell_judge(uint64_t r, uint64_t t, uint64_t l, uint64_t e, uint64_t fy, uint64_t edges, uint64_t a,
-                     uint64_t sx, uint64_t sphi, uint64_t tau);
+#include "../include/shellsheet.h"
 
 int main(void) {
     uint64_t v[10];
