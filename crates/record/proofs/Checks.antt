@@ -1,0 +1,76 @@
+-- Laws of tests one after the other, and the ranges that check 6 gives. Assumes nothing.
+use mathlib.Core.Path.{_≡_, refl, sym, _∙_}
+use mathlib.Core.Bool.{Bool, true, false, _&&_, not, true≢false}
+use Prim.Native.Nat.{ℕ, _*_, _≤_}
+use lib.Dec.{leb}
+use borrow.Author.Tests.{leb-true, not-true, not-false}
+use Rattle.cylinder.specs.Number.{pick}
+use Rattle.record.specs.declared.Record.{Record}
+use Rattle.record.specs.Limits.{within, dimensions, material, stresses, inRange}
+
+-- f is what a function returned of the test t
+pub told : {f t b : Bool} → f ≡ t → f ≡ b → t ≡ b
+told e h = sym e ∙ h
+
+pub told-not : {f t : Bool} → f ≡ t → not f ≡ true → t ≡ false
+told-not {f} e h = sym e ∙ not-true f h
+
+pub told-yes : {f t : Bool} → f ≡ t → not f ≡ false → t ≡ true
+told-yes {f} e h = sym e ∙ not-false f h
+
+-- both tests, by the first
+pub and-on : {a b r : Bool} → a ≡ true → r ≡ b → r ≡ (a && b)
+and-on e f = rw e f
+
+pub and-off : {a : Bool} (b : Bool) → a ≡ false → false ≡ (a && b)
+and-off b e = rw e
+
+pub pick-on : {A : Type 0} {b : Bool} {r x : A} (y : A) → b ≡ true → r ≡ x → r ≡ pick b x y
+pick-on y e f = rw e f
+
+pub pick-off : {A : Type 0} {b : Bool} {r y : A} (x : A) → b ≡ false → r ≡ y → r ≡ pick b x y
+pick-off x e f = rw e f
+
+-- and back
+pub and-true : (a b : Bool) → (a && b) ≡ true → (a ≡ true) × (b ≡ true)
+and-true true b h = (refl, h)
+and-true false b h = absurd (true≢false (sym h))
+
+-- a number in its range
+pub record Between (low high x : ℕ) : Type 0 where
+  pub least : low ≤ x
+  pub most : x ≤ high
+
+pub between : (low high x : ℕ) → within low high x ≡ true → Between low high x
+between low high x h = let (a, b) = and-true (leb low x) (leb x high) h in record { least = leb-true low x a; most = leb-true x high b }
+
+-- what check 6 lets through
+pub record Ranges (c : Record) : Type 0 where
+  pub radius : Between 100 50000 (c .radius)
+  pub wall : Between 100 10000 (c .wall)
+  pub length : Between 10 200000 (c .length)
+  pub modulus : Between 60000 220000 (c .modulus)
+  pub yield : Between 100 700 (c .«yield_stress»)
+  pub axial : c .axial ≤ 700000
+  pub ring : c .ring ≤ 700000
+  pub shear : c .shear ≤ 700000
+
+pub ranges : (c : Record) → inRange c ≡ true → Ranges c
+ranges c h =
+    let (d, ms) = and-true (dimensions c) (material c && stresses c) h in
+    let (m, s) = and-true (material c) (stresses c) ms in
+    let (r, wl) = and-true (within 100 50000 (c .radius)) (within 100 10000 (c .wall) && within 10 200000 (c .length)) d in
+    let (w, l) = and-true (within 100 10000 (c .wall)) (within 10 200000 (c .length)) wl in
+    let (e, f) = and-true (within 60000 220000 (c .modulus)) (within 100 700 (c .«yield_stress»)) m in
+    let (x, yz) = and-true (leb (c .axial) 700000) (leb (c .ring) 700000 && leb (c .shear) 700000) s in
+    let (y, z) = and-true (leb (c .ring) 700000) (leb (c .shear) 700000) yz in
+    record {
+      radius = between 100 50000 (c .radius) r;
+      wall = between 100 10000 (c .wall) w;
+      length = between 10 200000 (c .length) l;
+      modulus = between 60000 220000 (c .modulus) e;
+      yield = between 100 700 (c .«yield_stress») f;
+      axial = leb-true (c .axial) 700000 x;
+      ring = leb-true (c .ring) 700000 y;
+      shear = leb-true (c .shear) 700000 z;
+    }
