@@ -2,7 +2,7 @@
 use mathlib.Core.Path.{refl}
 use borrow.Author.Needs.{needs}
 use borrow.Author.Tests.{lt-ltb, le-ltb}
-use Rattle.record.proofs.Checks.{pick-on, pick-off}
+use Rattle.answer.proofs.Tests.{pick-on, pick-off}
 use Rattle.outcome.specs.Sheet.{refusalOf}
 use Rattle.outcome.proofs.refusal.Statement.{statement}
 use Rattle.outcome.proofs.refusal.Tie as tie

@@ -1,6 +1,6 @@
 -- `record::Record::has_material` meets its contract. Assumes nothing.
 use borrow.Author.Needs.{needs}
-use Rattle.record.proofs.Checks.{told, and-on, and-off}
+use Rattle.answer.proofs.Tests.{told, and-on, and-off}
 use Rattle.record.proofs.Record.has_material.Statement.{statement}
 use Rattle.record.proofs.Record.has_material.Tie as tie
 

@@ -3,7 +3,8 @@ use mathlib.Core.Path.{refl}
 use borrow.Author.Needs.{needs}
 use borrow.Author.Tests.{le-leb, lt-leb}
 use Rattle.record.specs.Limits.{refusal}
-use Rattle.record.proofs.Checks.{told-not, told-yes, pick-on, pick-off, ranges}
+use Rattle.answer.proofs.Tests.{told-not, told-yes, pick-on, pick-off}
+use Rattle.record.proofs.Checks.{ranges}
 use Rattle.record.proofs.Record.refusal.Statement.{statement}
 use Rattle.record.proofs.Record.refusal.Tie as tie
 
