@@ -1,6 +1,6 @@
 // What a run of document 01 gives: the outcome of a sheet, and the check that turns a sheet back.
+use lines::after_line;
 use listing::Counts;
-use text::after_line;
 ghost use mathlib.Core.Path.{_≡_};
 ghost use lib.ListN.{length};
 ghost use Rattle.text.specs.Bytes.{lines};

@@ -1,10 +1,10 @@
 // The sheet run of document 01: an answer for each line of a sheet, and the listing of the answers.
 use line::answer;
+use lines::after_line;
+use lines::first_line;
 use listing::Counts;
 use outcome::Outcome;
 use outcome::refusal;
-use text::after_line;
-use text::first_line;
 use writer::put_entry;
 use writer::put_total;
 ghost use mathlib.Core.Path.{_≡_};
