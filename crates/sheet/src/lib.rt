@@ -1,12 +1,12 @@
 // The sheet run of document 01: an answer for each line of a sheet, and the listing of the answers.
+use entry::put_entry;
 use line::answer;
 use lines::after_line;
 use lines::first_line;
 use listing::Counts;
 use outcome::Outcome;
 use outcome::refusal;
-use writer::put_entry;
-use writer::put_total;
+use total::put_total;
 ghost use mathlib.Core.Path.{_≡_};
 ghost use mathlib.Core.List.{List};
 ghost use Prim.Native.Nat.{ℕ, _≤_};

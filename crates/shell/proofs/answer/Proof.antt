@@ -4,6 +4,8 @@ use Prim.Native.Nat.{_≤_}
 use native.Mathlib.Omega.{arith}
 use lib.Dec.{lit<}
 use borrow.Author.Needs.{needs}
+use Rattle.cylinder.specs.Fraction.{whole}
+use Rattle.cylinder.specs.Search.{judge}
 use Rattle.record.specs.Judged.{boundsOf}
 use Rattle.record.proofs.Checks.{ranges}
 use Rattle.record.proofs.Judged.{accepted, answer-judged, answer-refused}
@@ -30,10 +32,13 @@ returns : tie.Need-returns
 unfolding boundsOf
 returns c =
     let s = c .before .before .before in
+    let a = s .before .before .args .c in
     let b = c .before .of-sum .ensures in
+    let e = c .before .before .shell .ensures in
     c .by-bounds .ensures
-    ∙ answer-judged (s .before .before .args .c) (s .before .refusal .result) _ _ (s .before .refusal .ensures) (s .if1 .taken)
-    (b .0 ∙ rw (c .before .before .shell .ensures)) (b .1 ∙ rw (c .before .before .shell .ensures))
+    ∙ answer-judged a (s .before .refusal .result) _ _ (s .before .refusal .ensures) (s .if1 .taken)
+    (b .0 ∙ (λ i. judge (e i) (whole (a .axial)) (whole (a .ring)) (whole (a .shear)) .low))
+    (b .1 ∙ (λ i. judge (e i) (whole (a .axial)) (whole (a .ring)) (whole (a .shear)) .high))
 
 returns-2 : tie.Need-returns-2
 returns-2 c = answer-refused (c .before .before .args .c) (c .before .refusal .result) (c .before .refusal .ensures) (c .if1 .left)

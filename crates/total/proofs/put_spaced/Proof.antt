@@ -1,6 +1,6 @@
 use borrow.Author.Needs.{needs}
-use Rattle.writer.proofs.put_spaced.Statement.{statement}
-use Rattle.writer.proofs.put_spaced.Tie as tie
+use Rattle.total.proofs.put_spaced.Statement.{statement}
+use Rattle.total.proofs.put_spaced.Tie as tie
 use Rattle.text.proofs.Laws.{wrote-then}
 
 slice-aggregate-put-bytes : tie.Need-slice-aggregate-put-bytes

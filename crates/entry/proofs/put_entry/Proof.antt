@@ -3,8 +3,8 @@ use native.Mathlib.Omega.{arith}
 use Rattle.text.proofs.Laws.{wrote-then}
 use Rattle.listing.specs.Listing.{entry}
 use Rattle.listing.proofs.Lengths.{entry-length}
-use Rattle.writer.proofs.put_entry.Statement.{statement}
-use Rattle.writer.proofs.put_entry.Tie as tie
+use Rattle.entry.proofs.put_entry.Statement.{statement}
+use Rattle.entry.proofs.put_entry.Tie as tie
 
 slice-aggregate-put-bytes : tie.Need-slice-aggregate-put-bytes
 slice-aggregate-put-bytes c = search needs

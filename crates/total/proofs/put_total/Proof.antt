@@ -3,8 +3,8 @@ use native.Mathlib.Omega.{arith}
 use Rattle.text.proofs.Laws.{wrote-then}
 use Rattle.listing.specs.Listing.{total}
 use Rattle.listing.proofs.Lengths.{total-length}
-use Rattle.writer.proofs.put_total.Statement.{statement}
-use Rattle.writer.proofs.put_total.Tie as tie
+use Rattle.total.proofs.put_total.Statement.{statement}
+use Rattle.total.proofs.put_total.Tie as tie
 
 slice-aggregate-put-bytes : tie.Need-slice-aggregate-put-bytes
 slice-aggregate-put-bytes c = search needs

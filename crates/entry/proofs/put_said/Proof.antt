@@ -1,6 +1,6 @@
 use borrow.Author.Needs.{needs}
-use Rattle.writer.proofs.put_said.Statement.{statement}
-use Rattle.writer.proofs.put_said.Tie as tie
+use Rattle.entry.proofs.put_said.Statement.{statement}
+use Rattle.entry.proofs.put_said.Tie as tie
 use native.Mathlib.Omega.{arith}
 use Rattle.listing.proofs.Lengths.{said-as, said-length-as, said-refused}
 use Rattle.text.proofs.Laws.{wrote-then}
