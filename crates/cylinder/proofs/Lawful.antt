@@ -11,8 +11,8 @@ use Rattle.cylinder.specs.Number.{pick}
 use Rattle.cylinder.specs.Cut.{Cut, fraction, rootOf, overSum, overDifference, smaller, rootAtMost, rootAtLeast}
 use Rattle.algebra.proofs.Powers.{cross-pow, mul-pow, pow-two, pow-four}
 use Rattle.cylinder.proofs.Tests.{and-true, and-false, or-true, or-false, both-true}
-use Rattle.cylinder.proofs.Density.{dense}
-use Rattle.cylinder.proofs.Roots.{plus-down, plus-meet, plus-above, minus-down, minus-meet, minus-above}
+use Rattle.density.proofs.Density.{dense}
+use Rattle.density.proofs.Roots.{plus-down, plus-meet, plus-above, minus-down, minus-meet, minus-above}
 
 -- a fraction over p/q that s reaches
 pub record Beyond (s : Cut) (p q : ℕ) : Type 0 where

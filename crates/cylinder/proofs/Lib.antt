@@ -16,8 +16,6 @@ pub mod Limits
 pub mod Far
 pub mod Placed
 pub mod Lawful
-pub mod Density
-pub mod Roots
 -- Terms: factors fall, and slowly; so the formula at two neighbouring points of the grid bounds a term
 pub mod Bounds
 pub mod Branches

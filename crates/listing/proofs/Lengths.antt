@@ -7,8 +7,8 @@ use mathlib.Core.List.{List, [], _∷_, _++_}
 use lib.ListN.{length, length-append}
 use Rattle.text.specs.Bytes.{decimal, pick}
 use Rattle.text.proofs.Laws.{Wrote}
-use Rattle.shell.specs.declared.Answer.{Answer}
-use Rattle.shell.specs.declared.Answer.the-variants.{Refused, Holds, Fails, Open}
+use Rattle.answer.specs.declared.Answer.{Answer}
+use Rattle.answer.specs.declared.Answer.the-variants.{Refused, Holds, Fails, Open}
 use Rattle.listing.specs.declared.Counts.{Counts}
 use Rattle.listing.specs.Listing.{said, entry, total, ended, isHolds, isFails, isOpen, isRefused, withAnswer}
 

@@ -10,8 +10,8 @@ use lib.ListN.{length, getD}
 use lib.Dec.{ltb, eqb}
 use borrow.Author.Tests.{ne-eqb}
 use Rattle.text.specs.Bytes.{ascii, pick, digits, decimal, isNewline, onFirst, lines}
-use Rattle.shell.specs.declared.Answer.{Answer}
-use Rattle.shell.specs.declared.Answer.the-variants.{Refused, Holds, Fails, Open}
+use Rattle.answer.specs.declared.Answer.{Answer}
+use Rattle.answer.specs.declared.Answer.the-variants.{Refused, Holds, Fails, Open}
 use Rattle.listing.specs.declared.Counts.{Counts}
 use Rattle.listing.specs.Listing.{said, entry, entries, counts, spaced, total, ended, joined, listingOf}
 

@@ -9,8 +9,8 @@ use lib.ListN.{length, length-append, length-map}
 use lib.Dec.{lit≤}
 use Rattle.text.specs.Bytes.{pick, decimal}
 use Rattle.text.proofs.Laws.{decimal-length}
-use Rattle.shell.specs.declared.Answer.{Answer}
-use Rattle.shell.specs.declared.Answer.the-variants.{Refused, Holds, Fails, Open}
+use Rattle.answer.specs.declared.Answer.{Answer}
+use Rattle.answer.specs.declared.Answer.the-variants.{Refused, Holds, Fails, Open}
 use Rattle.listing.specs.declared.Counts.{Counts}
 use Rattle.listing.specs.Listing.{said, entry, entries, isHolds, isFails, isOpen, isRefused, count, counts, total, ended, joined, listingOf}
 use Rattle.listing.proofs.Lengths.{entry-length, total-length}

@@ -9,7 +9,7 @@ use mathlib.Core.List.{List, [], _∷_, _++_}
 use lib.ListN.{length, length-append}
 use Rattle.text.specs.Bytes.{pick, put}
 use Rattle.text.proofs.Laws.{put-nil, put-length, put-append, Wrote, wrote-then}
-use Rattle.shell.specs.declared.Answer.{Answer}
+use Rattle.answer.specs.declared.Answer.{Answer}
 use Rattle.listing.specs.declared.Counts.{Counts}
 use Rattle.listing.specs.Listing.{entry, entries, isHolds, isFails, isOpen, isRefused, count, counts, total, ended, joined, listingOf, noCounts, withAnswer}
 use Rattle.listing.proofs.Totals.{Within, counts-within, listing-length}

@@ -4,8 +4,8 @@ use mathlib.Core.Bool.{Bool, true, false}
 use mathlib.Core.List.{List, [], _∷_, _++_}
 use lib.ListN.{length}
 use Rattle.text.specs.Bytes.{ascii, pick, decimal}
-use Rattle.shell.specs.declared.Answer.{Answer}
-use Rattle.shell.specs.declared.Answer.the-variants.{Refused, Holds, Fails, Open}
+use Rattle.answer.specs.declared.Answer.{Answer}
+use Rattle.answer.specs.declared.Answer.the-variants.{Refused, Holds, Fails, Open}
 use Rattle.listing.specs.declared.Counts.{Counts}
 
 -- ---- a line for each answer

@@ -1,12 +1,8 @@
-// The listing of document 01: the line for an answer, the counts of the answers, and the total line.
-use shell::Answer;
-use text::put_bytes;
-use text::put_number;
+// The listing of document 01, and the counts of its answers.
+use answer::Answer;
 ghost use mathlib.Core.Path.{_≡_};
-ghost use Prim.Native.Nat.{_+_, _≤_, _<_};
-ghost use lib.ListN.{length};
-ghost use Rattle.text.specs.Bytes.{put};
-ghost use Rattle.listing.specs.Listing.{said, entry, spaced, total, ended, noCounts, withAnswer};
+ghost use Prim.Native.Nat.{_<_};
+ghost use Rattle.listing.specs.Listing.{noCounts, withAnswer};
 
 // The five counts of a listing: of lines, and of the answers of each kind.
 pub struct Counts {
@@ -54,60 +50,4 @@ impl Counts {
         }
         c
     }
-}
-
-// Writes what follows the number in the line for an answer.
-fn put_said(out: &mut [u8], at: usize, a: Answer) -> usize
-    requires { ⌜ at + length (said a) ≤ length (now out) ⌝ }
-    ensures { λ r. ⌜ r ≡ at + length (said a) ⌝ }
-    ensures { λ _. ⌜ now (out .exit) ≡ put (now (out .entry)) at (said a) ⌝ }
-{
-    match a {
-        Answer::Holds(_, _) => put_bytes(out, at, b" holds)"),
-        Answer::Fails(_, _) => put_bytes(out, at, b" fails)"),
-        Answer::Open(_, _) => put_bytes(out, at, b" open)"),
-        Answer::Refused(n) => {
-            let b = put_bytes(out, at, b" refused ");
-            let e = put_number(out, b, n);
-            put_bytes(out, e, b")")
-        }
-    }
-}
-
-// Writes the line for the answer to line k into `out` from `at`, and returns the index after it.
-pub fn put_entry(out: &mut [u8], at: usize, k: u64, a: Answer) -> usize
-    requires { ⌜ at + length (ended (entry k a)) ≤ length (now out) ⌝ }
-    ensures { λ r. ⌜ r ≡ at + length (ended (entry k a)) ⌝ }
-    ensures { λ _. ⌜ now (out .exit) ≡ put (now (out .entry)) at (ended (entry k a)) ⌝ }
-{
-    let b = put_bytes(out, at, b"(");
-    let e = put_number(out, b, k);
-    let s = put_said(out, e, a);
-    put_bytes(out, s, b"\n")
-}
-
-// Writes a space and a number.
-fn put_spaced(out: &mut [u8], at: usize, n: u64) -> usize
-    requires { ⌜ at + length (spaced n) ≤ length (now out) ⌝ }
-    ensures { λ r. ⌜ r ≡ at + length (spaced n) ⌝ }
-    ensures { λ _. ⌜ now (out .exit) ≡ put (now (out .entry)) at (spaced n) ⌝ }
-{
-    let b = put_bytes(out, at, b" ");
-    put_number(out, b, n)
-}
-
-// Writes the total line into `out` from `at`, and returns the index after it.
-pub fn put_total(out: &mut [u8], at: usize, c: Counts) -> usize
-    requires { ⌜ at + length (ended (total c)) ≤ length (now out) ⌝ }
-    ensures { λ r. ⌜ r ≡ at + length (ended (total c)) ⌝ }
-    ensures { λ _. ⌜ now (out .exit) ≡ put (now (out .entry)) at (ended (total c)) ⌝ }
-{
-    let a0 = put_bytes(out, at, b"(total");
-    let a1 = put_spaced(out, a0, c.lines);
-    let a2 = put_spaced(out, a1, c.holds);
-    let a3 = put_spaced(out, a2, c.fails);
-    let a4 = put_spaced(out, a3, c.opens);
-    let a5 = put_spaced(out, a4, c.refused);
-    let a6 = put_bytes(out, a5, b")");
-    put_bytes(out, a6, b"\n")
 }

@@ -1,49 +1,29 @@
 // The sheet run of document 01: an answer for each line of a sheet, and the listing of the answers.
+use entry::put_entry;
 use line::answer;
+use lines::after_line;
+use lines::first_line;
 use listing::Counts;
-use listing::put_entry;
-use listing::put_total;
-use text::after_line;
-use text::first_line;
+use outcome::Outcome;
+use outcome::refusal;
+use total::put_total;
 ghost use mathlib.Core.Path.{_≡_};
 ghost use mathlib.Core.List.{List};
 ghost use Prim.Native.Nat.{ℕ, _≤_};
 ghost use lib.ListN.{length};
-ghost use Rattle.text.specs.Bytes.{put, lines};
-ghost use Rattle.sheet.specs.Sheet.{listing, turnedBack, accepted, outcome};
+ghost use Rattle.text.specs.Bytes.{put};
+ghost use Rattle.outcome.specs.Sheet.{listing, turnedBack, accepted, outcome};
+ghost use Rattle.outcome.specs.declared.Outcome.{Outcome};
 
-// What a run returns: the refusal's number or 0, the five counts, and the listing's length in bytes.
-pub struct Outcome {
-    pub refusal: u64,
-    pub counts: Counts,
-    pub length: usize,
-}
-
-impl Outcome {
-    // The outcome of a sheet that is turned back with the number n.
-    fn turned_back(n: u64) -> Self
-        ensures { λ r. ⌜ r ≡ turnedBack n ⌝ }
-    {
-        Outcome {
-            refusal: n,
-            counts: Counts::none(),
-            length: 0,
-        }
-    }
-}
-
-// How many lines a sheet has.
-fn count_lines(sheet: &[u8]) -> u64
-    ensures { λ r. ⌜ r ≡ length (lines (now (sheet .entry))) ⌝ }
+// The outcome of a sheet that is turned back with the number n.
+fn turned_back(n: u64) -> Outcome
+    ensures { λ r. ⌜ r ≡ turnedBack n ⌝ }
 {
-    let mut tail = sheet;
-    let mut n: u64 = 0;
-    while 0 < tail.len() {
-        let next = after_line(tail);
-        tail = next;
-        n += 1;
+    Outcome {
+        refusal: n,
+        counts: Counts::none(),
+        length: 0,
     }
-    n
 }
 
 // Writes the listing of a sheet to the start of `out`.
@@ -74,16 +54,10 @@ fn put_listing(sheet: &[u8], out: &mut [u8]) -> Outcome
 pub fn run(sheet: &[u8], out: &mut [u8]) -> Outcome
     ensures { λ r. ⌜ _≡_ {A = Outcome × List ℕ} (r, now (out .exit)) (outcome (now (sheet .entry)) (now (out .entry))) ⌝ }
 {
-    if 65535 < sheet.len() {
-        return Outcome::turned_back(1);
-    }
-    let n = count_lines(sheet);
-    if 1024 < n {
-        return Outcome::turned_back(2);
-    }
     let room = out.len() as u64;
-    if room < 24 * n + 40 {
-        return Outcome::turned_back(3);
+    let n = refusal(sheet, room);
+    if 0 < n {
+        return turned_back(n);
     }
     put_listing(sheet, out)
 }

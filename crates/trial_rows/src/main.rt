@@ -1,7 +1,7 @@
 // The trial shells of document 01, through the judge: each record's answer as a line of a listing.
+use answer::Answer;
 use libc::STDOUT_FILENO;
-use shell::Answer;
-use shell::Record;
+use record::Record;
 
 // Writes the answer to record k.
 fn show(k: u64, a: Answer) {
@@ -27,29 +27,25 @@ fn show(k: u64, a: Answer) {
 
 // Shell B with three stresses.
 fn b(k: u64, axial: u64, ring: u64, shear: u64) {
-    show(
-        k,
-        Record::judge(5000, 500, 10000, 210000, 240, 12, 1000, axial, ring, shear),
-    );
+    let c = Record::of_numbers(5000, 500, 10000, 210000, 240, 12, 1000, axial, ring, shear);
+    show(k, shell::answer(c));
 }
 
 // Shell B with another radius, wall and length, or another imperfection, under no stress.
 fn other(k: u64, radius: u64, wall: u64, length: u64, imperfection: u64, axial: u64) {
-    show(
-        k,
-        Record::judge(
-            radius,
-            wall,
-            length,
-            210000,
-            240,
-            12,
-            imperfection,
-            axial,
-            0,
-            0,
-        ),
+    let c = Record::of_numbers(
+        radius,
+        wall,
+        length,
+        210000,
+        240,
+        12,
+        imperfection,
+        axial,
+        0,
+        0,
     );
+    show(k, shell::answer(c));
 }
 
 fn main() {

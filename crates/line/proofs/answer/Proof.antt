@@ -1,7 +1,7 @@
 use borrow.Author.Needs.{needs}
 use Rattle.line.proofs.answer.Statement.{statement}
 use Rattle.line.proofs.answer.Tie as tie
-use Rattle.line.proofs.Answers.{answer-long, answer-other, answer-read}
+use Rattle.reading.proofs.Answers.{answer-long, answer-other, answer-read}
 
 returns : tie.Need-returns
 returns c = answer-long _ (c .if1 .taken)

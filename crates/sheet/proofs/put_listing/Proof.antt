@@ -6,10 +6,10 @@ use mathlib.Core.List.{List, _∷_}
 use lib.ListN.{length, length-map}
 use Rattle.text.specs.Bytes.{after, isNewline, lines}
 use Rattle.text.proofs.Laws.{rest-less, lines-le}
-use Rattle.line.specs.Reading.{answerTo}
+use Rattle.reading.specs.Reading.{answerTo}
 use Rattle.listing.proofs.Turns.{Here, here-first, here-room, here-turn, here-within, here-counts, here-total, here-listing}
-use Rattle.sheet.specs.Sheet.{answers, listing}
-use Rattle.sheet.proofs.Laws.{answers-next, answers-none, listed}
+use Rattle.outcome.specs.Sheet.{answers, listing}
+use Rattle.outcome.proofs.Laws.{answers-next, answers-none, listed}
 use Rattle.sheet.proofs.put_listing.Statement.{statement}
 use Rattle.sheet.proofs.put_listing.Tie as tie
 

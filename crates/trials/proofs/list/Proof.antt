@@ -1,7 +1,7 @@
 use borrow.Author.Needs.{needs}
 use mathlib.Core.Path.{sym}
 use lib.Seq.{length-take-le}
-use Rattle.sheet.proofs.Demand3.{length-fits}
+use Rattle.outcome.proofs.Demand3.{length-fits}
 use Rattle.trials.proofs.list.Statement.{statement}
 use Rattle.trials.proofs.list.Tie as tie
 

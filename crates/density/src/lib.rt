@@ -1,0 +1,1 @@
+// No code: the laws of proofs/ are for the proofs of cylinder.

@@ -1,4 +1,0 @@
-pub mod Laws
-pub mod Inverse
-pub mod Answers
-pub mod Examples

@@ -1,0 +1,45 @@
+// What a run of document 01 gives: the outcome of a sheet, and the check that turns a sheet back.
+use lines::after_line;
+use listing::Counts;
+ghost use mathlib.Core.Path.{_≡_};
+ghost use lib.ListN.{length};
+ghost use Rattle.text.specs.Bytes.{lines};
+ghost use Rattle.outcome.specs.Sheet.{refusalOf};
+
+// What a run returns: the refusal's number or 0, the five counts, and the listing's length in bytes.
+pub struct Outcome {
+    pub refusal: u64,
+    pub counts: Counts,
+    pub length: usize,
+}
+
+// How many lines a sheet has.
+fn count_lines(sheet: &[u8]) -> u64
+    ensures { λ r. ⌜ r ≡ length (lines (now (sheet .entry))) ⌝ }
+{
+    let mut tail = sheet;
+    let mut n: u64 = 0;
+    while 0 < tail.len() {
+        let next = after_line(tail);
+        tail = next;
+        n += 1;
+    }
+    n
+}
+
+// The lowest number by which a sheet is turned back whose listing has so many bytes of room; 0 where it is accepted.
+pub fn refusal(sheet: &[u8], room: u64) -> u64
+    ensures { λ r. ⌜ r ≡ refusalOf (now (sheet .entry)) room ⌝ }
+{
+    if 65535 < sheet.len() {
+        return 1;
+    }
+    let n = count_lines(sheet);
+    if 1024 < n {
+        return 2;
+    }
+    if room < 24 * n + 40 {
+        return 3;
+    }
+    0
+}

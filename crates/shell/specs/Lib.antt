@@ -1,3 +1,0 @@
-pub mod Limits
-pub mod Answers
-pub mod Judged
