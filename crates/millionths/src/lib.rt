@@ -8,8 +8,8 @@ ghost use Rattle.wide.specs.Value.{limbs, value, Limbs, Is};
 ghost use Rattle.factors.specs.Product.{prod};
 ghost use Rattle.near.specs.Around.{Around};
 ghost use Rattle.roots.specs.Largest.{largest};
+use guess::Degree;
 use near::Near;
-use roots::Degree;
 use search::Found;
 use wide::LIMBS;
 

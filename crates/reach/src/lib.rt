@@ -13,8 +13,8 @@ ghost use Rattle.reach.specs.Highest.{Highest, curvedOf};
 ghost use Rattle.reach.specs.TermsOf.{Sheared, Bent, TermsOf};
 use cylinder::Shell;
 use cylinder::Stress;
+use guess::Degree;
 use near::Near;
-use roots::Degree;
 
 // Axial stress, short: the largest k up to the cap such that S reaches k/q.
 fn axial_short_highest(s: Shell, q: u64, cap: u64) -> u64
@@ -190,7 +190,7 @@ fn rough_root(s: Shell) -> u64
 {
     let x = search::leading(near::of(200 * s.radius));
     let y = search::leading(lifted(lifted(near::of(s.wall))));
-    roots::guess_from(x, y, Degree::Two)
+    guess::guess_from(x, y, Degree::Two)
 }
 
 // A guess at S for shear, short: the fourth root of d q⁴/(c + e √(w/(200 r))).
@@ -198,7 +198,7 @@ fn shear_guess(s: Shell, t: Terms) -> u64
     requires { ⌜ Within s ⌝ }
 {
     let x = near::plus(lifted(t.c), near::times(t.e, near::of(rough_root(s))));
-    roots::guess_from(
+    guess::guess_from(
         search::leading(x),
         search::leading(lifted(t.d)),
         Degree::Four,
@@ -210,7 +210,7 @@ fn bent_guess(s: Shell, t: Terms) -> u64
     requires { ⌜ Within s ⌝ }
 {
     let x = near::minus(lifted(t.c), near::times(t.e, near::of(rough_root(s))));
-    roots::guess_from(
+    guess::guess_from(
         search::leading(x),
         search::leading(lifted(t.d)),
         Degree::Two,
@@ -237,16 +237,16 @@ fn curved_highest(shear: bool, s: Shell, q: u64, cap: u64, near: u64, t: Terms) 
 {
     let mut lo = 0;
     let mut hi = cap + 1;
-    let mut wish = roots::between(near, cap);
+    let mut wish = steps::between(near, cap);
     let mut step = 1;
     while lo + 1 < hi {
-        let p = roots::probe(lo, hi, wish);
+        let p = steps::probe(lo, hi, wish);
         if curved_reaches(shear, s, p, q, t) {
             lo = p;
             wish = p + step;
         } else {
             hi = p;
-            wish = roots::back(p, step);
+            wish = steps::back(p, step);
         }
         step = step * 2 % 8589934592;
     }
