@@ -104,9 +104,9 @@ fn shear_terms(s: Shell, q: u64) -> Terms
     let g = [25600000000, s.radius, l, l, l, l, v, v, q, q, q, q];
     let h = [1080000, e, e, w, w, l, l, l];
     Terms {
-        c: search::bounds_of(&f),
-        d: search::bounds_of(&g),
-        e: search::bounds_of(&h),
+        c: enclosure::bounds_of(&f),
+        d: enclosure::bounds_of(&g),
+        e: enclosure::bounds_of(&h),
     }
 }
 
@@ -122,9 +122,9 @@ fn bent_terms(s: Shell, q: u64) -> Terms
     let g = [400000, n, r, r, s.yield_stress, q, q];
     let h = [121, e, w, 4, s.length];
     Terms {
-        c: search::bounds_of(&f),
-        d: search::bounds_of(&g),
-        e: search::bounds_of(&h),
+        c: enclosure::bounds_of(&f),
+        d: enclosure::bounds_of(&g),
+        e: enclosure::bounds_of(&h),
     }
 }
 
@@ -188,8 +188,8 @@ fn lifted(n: Near) -> Near {
 fn rough_root(s: Shell) -> u64
     requires { ⌜ Within s ⌝ }
 {
-    let x = search::leading(near::of(200 * s.radius));
-    let y = search::leading(lifted(lifted(near::of(s.wall))));
+    let x = settle::leading(near::of(200 * s.radius));
+    let y = settle::leading(lifted(lifted(near::of(s.wall))));
     guess::guess_from(x, y, Degree::Two)
 }
 
@@ -199,8 +199,8 @@ fn shear_guess(s: Shell, t: Terms) -> u64
 {
     let x = near::plus(lifted(t.c), near::times(t.e, near::of(rough_root(s))));
     guess::guess_from(
-        search::leading(x),
-        search::leading(lifted(t.d)),
+        settle::leading(x),
+        settle::leading(lifted(t.d)),
         Degree::Four,
     )
 }
@@ -211,8 +211,8 @@ fn bent_guess(s: Shell, t: Terms) -> u64
 {
     let x = near::minus(lifted(t.c), near::times(t.e, near::of(rough_root(s))));
     guess::guess_from(
-        search::leading(x),
-        search::leading(lifted(t.d)),
+        settle::leading(x),
+        settle::leading(lifted(t.d)),
         Degree::Two,
     )
 }
