@@ -8,16 +8,16 @@ ghost use Rattle.wide.specs.Value.{limbs, value, Limbs, Is};
 ghost use Rattle.factors.specs.Product.{prod};
 ghost use Rattle.near.specs.Around.{Around};
 ghost use Rattle.roots.specs.Largest.{largest};
+use guess::Degree;
 use near::Near;
-use roots::Degree;
-use search::Found;
+use settle::Found;
 use wide::LIMBS;
 
 // Bounds of x times the product of four factors.
 fn bounds(f: [u64; 4], x: u64) -> Near
     ensures { λ r. ⌜ Around r (x * prod f) ⌝ }
 {
-    near::times(near::of(x), search::bounds_of(&f))
+    near::times(near::of(x), enclosure::bounds_of(&f))
 }
 
 // Bounds of a fifth power.
@@ -70,7 +70,7 @@ fn settled_quarters(x: Near, y: Near) -> Found
 {
     let t = near::of(1000000000000);
     let y5 = near::times(near::times(fifth(y), t), t);
-    search::settled(fifth(x), y5, Degree::Four, 2000000)
+    settle::settled(fifth(x), y5, Degree::Four, 2000000)
 }
 
 // How many millionths 3 (y/x)² reaches, up to 2,000,000, if bounds of x and y settle it.
@@ -78,7 +78,7 @@ fn settled_squares(x: Near, y: Near) -> Found
     ensures { λ r. ⌜ (r .known ≡ true → (n m : ℕ) → Around x n → Around y m → r .at ≡ largest 1 2000000 (n ^ 2) (3 * m ^ 2 * 1000000)) ⌝ }
 {
     let y2 = near::times(near::times(y, y), near::of(3000000));
-    search::settled(near::times(x, x), y2, Degree::One, 2000000)
+    settle::settled(near::times(x, x), y2, Degree::One, 2000000)
 }
 
 // How many millionths (y g/(x f))^(5/4) reaches, up to 2,000,000, with the products of f and g.

@@ -13,8 +13,8 @@ ghost use Rattle.reach.specs.Highest.{Highest, curvedOf};
 ghost use Rattle.reach.specs.TermsOf.{Sheared, Bent, TermsOf};
 use cylinder::Shell;
 use cylinder::Stress;
+use guess::Degree;
 use near::Near;
-use roots::Degree;
 
 // Axial stress, short: the largest k up to the cap such that S reaches k/q.
 fn axial_short_highest(s: Shell, q: u64, cap: u64) -> u64
@@ -104,9 +104,9 @@ fn shear_terms(s: Shell, q: u64) -> Terms
     let g = [25600000000, s.radius, l, l, l, l, v, v, q, q, q, q];
     let h = [1080000, e, e, w, w, l, l, l];
     Terms {
-        c: search::bounds_of(&f),
-        d: search::bounds_of(&g),
-        e: search::bounds_of(&h),
+        c: enclosure::bounds_of(&f),
+        d: enclosure::bounds_of(&g),
+        e: enclosure::bounds_of(&h),
     }
 }
 
@@ -122,9 +122,9 @@ fn bent_terms(s: Shell, q: u64) -> Terms
     let g = [400000, n, r, r, s.yield_stress, q, q];
     let h = [121, e, w, 4, s.length];
     Terms {
-        c: search::bounds_of(&f),
-        d: search::bounds_of(&g),
-        e: search::bounds_of(&h),
+        c: enclosure::bounds_of(&f),
+        d: enclosure::bounds_of(&g),
+        e: enclosure::bounds_of(&h),
     }
 }
 
@@ -188,9 +188,9 @@ fn lifted(n: Near) -> Near {
 fn rough_root(s: Shell) -> u64
     requires { ⌜ Within s ⌝ }
 {
-    let x = search::leading(near::of(200 * s.radius));
-    let y = search::leading(lifted(lifted(near::of(s.wall))));
-    roots::guess_from(x, y, Degree::Two)
+    let x = settle::leading(near::of(200 * s.radius));
+    let y = settle::leading(lifted(lifted(near::of(s.wall))));
+    guess::guess_from(x, y, Degree::Two)
 }
 
 // A guess at S for shear, short: the fourth root of d q⁴/(c + e √(w/(200 r))).
@@ -198,9 +198,9 @@ fn shear_guess(s: Shell, t: Terms) -> u64
     requires { ⌜ Within s ⌝ }
 {
     let x = near::plus(lifted(t.c), near::times(t.e, near::of(rough_root(s))));
-    roots::guess_from(
-        search::leading(x),
-        search::leading(lifted(t.d)),
+    guess::guess_from(
+        settle::leading(x),
+        settle::leading(lifted(t.d)),
         Degree::Four,
     )
 }
@@ -210,9 +210,9 @@ fn bent_guess(s: Shell, t: Terms) -> u64
     requires { ⌜ Within s ⌝ }
 {
     let x = near::minus(lifted(t.c), near::times(t.e, near::of(rough_root(s))));
-    roots::guess_from(
-        search::leading(x),
-        search::leading(lifted(t.d)),
+    guess::guess_from(
+        settle::leading(x),
+        settle::leading(lifted(t.d)),
         Degree::Two,
     )
 }
@@ -237,16 +237,16 @@ fn curved_highest(shear: bool, s: Shell, q: u64, cap: u64, near: u64, t: Terms) 
 {
     let mut lo = 0;
     let mut hi = cap + 1;
-    let mut wish = roots::between(near, cap);
+    let mut wish = steps::between(near, cap);
     let mut step = 1;
     while lo + 1 < hi {
-        let p = roots::probe(lo, hi, wish);
+        let p = steps::probe(lo, hi, wish);
         if curved_reaches(shear, s, p, q, t) {
             lo = p;
             wish = p + step;
         } else {
             hi = p;
-            wish = roots::back(p, step);
+            wish = steps::back(p, step);
         }
         step = step * 2 % 8589934592;
     }
