@@ -13,7 +13,7 @@ use Rattle.factors.specs.Product.{prod}
 use Rattle.cylinder.specs.declared.Shell.{Shell}
 use Rattle.cylinder.specs.Cut.{rootOf}
 use Rattle.cylinder.specs.WholeIdeal.{eta, axialBent, shearShortS}
-use Rattle.ideal.proofs.Rows.{shear-short-row, axial-bent-row, axial-bent-low}
+use Rattle.rooted.proofs.Rows.{shear-short-row, axial-bent-row, axial-bent-low}
 
 -- ---- plain numbers
 

@@ -1,0 +1,3 @@
+-- The laws.
+pub mod Decision
+pub mod Rows
