@@ -24,7 +24,8 @@ use Rattle.slenderness.specs.declared.Limits.{Limits}
 use Rattle.term.specs.TermOf.{termOf, Lies1, Lies2}
 use Rattle.term.specs.declared.Branches.{Branches}
 use Rattle.term.proofs.Terms as terms
-use Rattle.bounds.specs.Stresses.{slendernessOf, termFor, lowOf, Reads}
+use Rattle.cylinder.specs.WholeCurves.{part1, part2}
+use Rattle.bounds.specs.Stresses.{slendernessOf, part1Of, part2Of, termFor, lowOf, Reads}
 
 -- the branch by length is that of the slenderness
 pub cut-is : (kind : Stress) (short : Bool) (s : Shell) → short ≡ shortOf kind s → cutOf kind short s ≡ slendernessOf kind s
@@ -32,23 +33,30 @@ cut-is Axial short s e = rw e
 cut-is Ring short s e = rw e
 cut-is Shear short s e = rw e
 
+-- the branches that were read are the slenderness's
+part1-is : {c : Cut} (l : Limits) → Sides c l → part1Of l ≡ part1 c
+part1-is l a = rw (a .within-two-fifths, a .reaches-six-fifths)
+
+part2-is : {c : Cut} (l : Limits) → Sides c l → part2Of l ≡ part2 c
+part2-is l a = rw (a .within-quarter, a .within-one, a .within-three-halves)
+
 -- the term in the branches that were read is the shell's
 pub term-is : (kind : Stress) (s : Shell) (num den : ℕ) (l : Limits) (b : Branches) → Sides (slendernessOf kind s) l → Reads kind l b →
     termOf kind b (s .«yield_stress») num den (excess s) ≡ termFor kind s (num // den)
 term-is Axial s num den l b a r =
     terms.axial-is s (num // den) b
     (record {
-      part = r .part ∙ rw (a .within-quarter, a .within-one, a .within-three-halves);
+      part = r .part ∙ part2-is l a;
       long = r .long ∙ a .reaches-three-halves;
       near = r .near ∙ a .within-quarter;
       far = r .far ∙ a .reaches-two;
     })
 term-is Ring s num den l b a r =
     terms.ring-is s (num // den) b
-    (record { part = r .part ∙ rw (a .within-two-fifths, a .reaches-six-fifths); long = r .long ∙ a .reaches-three-halves })
+    (record { part = r .part ∙ part1-is l a; long = r .long ∙ a .reaches-three-halves })
 term-is Shear s num den l b a r =
     terms.shear-is s (num // den) b
-    (record { part = r .part ∙ rw (a .within-two-fifths, a .reaches-six-fifths); long = r .long ∙ a .reaches-three-halves })
+    (record { part = r .part ∙ part1-is l a; long = r .long ∙ a .reaches-three-halves })
 
 rise-some : (kind : Stress) (s : Shell) (σ : Fraction) → termFor kind s σ .rise ≢ 0
 rise-some Axial s σ e = omega arith
