@@ -1,1 +1,3 @@
+-- The laws.
+pub mod Places
 pub mod Stresses

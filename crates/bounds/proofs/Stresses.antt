@@ -18,9 +18,9 @@ use Rattle.cylinder.specs.Search.{grid, place, most, bounds}
 use Rattle.cylinder.proofs.Search.{most-edge}
 use Rattle.cylinder.proofs.Tests.{and-true}
 use Rattle.ideal.specs.Decision.{cutOf}
-use Rattle.slenderness.specs.Short.{shortOf}
-use Rattle.slenderness.specs.Sides.{Sides}
-use Rattle.slenderness.specs.declared.Limits.{Limits}
+use Rattle.lengths.specs.Short.{shortOf}
+use Rattle.bounds.specs.Sides.{Sides}
+use Rattle.bounds.specs.declared.Limits.{Limits}
 use Rattle.term.specs.TermOf.{termOf, Lies1, Lies2}
 use Rattle.term.specs.declared.Branches.{Branches}
 use Rattle.term.proofs.Terms as terms

@@ -15,7 +15,7 @@ use Rattle.cylinder.specs.WholeCurves as curves
 use Rattle.cylinder.specs.WholeTerm.{Term}
 use Rattle.cylinder.specs.WholeStress.{axialTerm, ringTerm, shearTerm}
 use Rattle.cylinder.specs.Search.{grid, place, most, Pair, bounds}
-use Rattle.slenderness.specs.declared.Limits.{Limits}
+use Rattle.bounds.specs.declared.Limits.{Limits}
 use Rattle.term.specs.declared.Branches.{Branches}
 use Rattle.bounds.specs.declared.Load.{Load}
 pub use Rattle.term.specs.TermOf.{partOf}

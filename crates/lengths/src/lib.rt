@@ -3,7 +3,9 @@ ghost use mathlib.Core.Path.{_≡_};
 ghost use Prim.Native.Nat.{_≤_};
 ghost use Rattle.cylinder.specs.Within.{Within};
 ghost use Rattle.cylinder.specs.WholeIdeal.{eta as etaOf, ringEdges, axialShort, ringShort, shearShort};
+ghost use Rattle.lengths.specs.Short.{shortOf};
 use cylinder::Shell;
+use cylinder::Stress;
 
 // η of table 1.
 pub fn eta(edges: u64) -> u64
@@ -32,7 +34,7 @@ pub fn ring_edges(edges: u64) -> u64
 }
 
 // Whether the cylinder is short for axial stress.
-pub fn axial_short(s: Shell) -> bool
+fn axial_short(s: Shell) -> bool
     requires { ⌜ Within s ⌝ }
     ensures { λ r. ⌜ r ≡ axialShort s ⌝ }
 {
@@ -42,7 +44,7 @@ pub fn axial_short(s: Shell) -> bool
 }
 
 // Whether the cylinder is short for ring stress: for a radius from 11,500 on it always is.
-pub fn ring_short(s: Shell) -> bool
+fn ring_short(s: Shell) -> bool
     requires { ⌜ Within s ⌝ }
     ensures { λ r. ⌜ r ≡ ringShort s ⌝ }
 {
@@ -56,11 +58,23 @@ pub fn ring_short(s: Shell) -> bool
 }
 
 // Whether the cylinder is short for shear.
-pub fn shear_short(s: Shell) -> bool
+fn shear_short(s: Shell) -> bool
     requires { ⌜ Within s ⌝ }
     ensures { λ r. ⌜ r ≡ shearShort s ⌝ }
 {
     let l = s.length;
     let r = s.radius;
     l * l * s.wall <= 15138 * r * r * r
+}
+
+// Whether the cylinder is short for a stress.
+pub fn is_short(kind: Stress, s: Shell) -> bool
+    requires { ⌜ Within s ⌝ }
+    ensures { λ r. ⌜ r ≡ shortOf kind s ⌝ }
+{
+    match kind {
+        Stress::Axial => axial_short(s),
+        Stress::Ring => ring_short(s),
+        Stress::Shear => shear_short(s),
+    }
 }

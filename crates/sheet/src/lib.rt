@@ -1,19 +1,35 @@
 // The sheet run of document 01: an answer for each line of a sheet, and the listing of the answers.
+use answer::Answer;
 use entry::put_entry;
-use line::answer;
 use lines::after_line;
 use lines::first_line;
 use listing::Counts;
 use outcome::Outcome;
 use outcome::refusal;
+use reading::Form;
+use reading::read;
 use total::put_total;
 ghost use mathlib.Core.Path.{_≡_};
 ghost use mathlib.Core.List.{List};
 ghost use Prim.Native.Nat.{ℕ, _≤_};
 ghost use lib.ListN.{length};
 ghost use Rattle.text.specs.Bytes.{put};
+ghost use Rattle.reading.specs.Reading.{answerTo};
 ghost use Rattle.outcome.specs.Sheet.{listing, turnedBack, accepted, outcome};
 ghost use Rattle.outcome.specs.declared.Outcome.{Outcome};
+
+// The answer to a line: refused by 4 if it is over 128 bytes, by 5 if it is not the form, else the answer to its record.
+fn answer(line: &[u8]) -> Answer
+    ensures { λ r. ⌜ r ≡ answerTo (now (line .entry)) ⌝ }
+{
+    if 128 < line.len() {
+        return Answer::Refused(4);
+    }
+    let Form::Read(c) = read(line) else {
+        return Answer::Refused(5);
+    };
+    shell::answer(c)
+}
 
 // The outcome of a sheet that is turned back with the number n.
 fn turned_back(n: u64) -> Outcome

@@ -2,7 +2,7 @@
 use mathlib.Core.Path.{subst, _∙_}
 use borrow.Author.Needs.{needs}
 use Rattle.cylinder.specs.Cut.{Cut}
-use Rattle.slenderness.specs.Sides.{Sides}
+use Rattle.bounds.specs.Sides.{Sides}
 use Rattle.bounds.specs.Stresses.{slendernessOf}
 use Rattle.bounds.proofs.Stresses.{cut-is, term-is}
 use Rattle.bounds.proofs.lowest.Statement.{statement}

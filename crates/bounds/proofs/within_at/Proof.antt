@@ -1,12 +1,12 @@
--- `slenderness::within_at` meets its contract. Assumes nothing.
+-- `bounds::within_at` meets its contract. Assumes nothing.
 use Prim.Native.Nat.{_*_, _/_}
 use native.Mathlib.Nat.{mul-le-mul}
 use native.Mathlib.Omega.{arith}
 use borrow.Author.Needs.{needs}
 use Rattle.ideal.specs.Decision.{cutOf}
-use Rattle.slenderness.proofs.Places.{lawful, far, small, at-within, at-over}
-use Rattle.slenderness.proofs.within_at.Statement.{statement}
-use Rattle.slenderness.proofs.within_at.Tie as tie
+use Rattle.bounds.proofs.Places.{lawful, far, small, at-within, at-over}
+use Rattle.bounds.proofs.within_at.Statement.{statement}
+use Rattle.bounds.proofs.within_at.Tie as tie
 
 mul-x : tie.Need-mul-x
 mul-x c =

@@ -1,6 +1,7 @@
+-- `sheet::answer` meets its contract. Assumes nothing.
 use borrow.Author.Needs.{needs}
-use Rattle.line.proofs.answer.Statement.{statement}
-use Rattle.line.proofs.answer.Tie as tie
+use Rattle.sheet.proofs.answer.Statement.{statement}
+use Rattle.sheet.proofs.answer.Tie as tie
 use Rattle.reading.proofs.Answers.{answer-long, answer-other, answer-read}
 
 returns : tie.Need-returns

@@ -1,11 +1,11 @@
--- `slenderness::branches` meets its contract. Assumes nothing.
+-- `bounds::branches` meets its contract. Assumes nothing.
 use mathlib.Core.Path.{refl, _∙_}
 use lib.Dec.{lit≤, lit<}
 use borrow.Author.Needs.{needs}
 use Rattle.ideal.specs.Decision.{cutOf}
-use Rattle.slenderness.proofs.Places.{lawful, far, small, at-reaches}
-use Rattle.slenderness.proofs.branches.Statement.{statement}
-use Rattle.slenderness.proofs.branches.Tie as tie
+use Rattle.bounds.proofs.Places.{lawful, far, small, at-reaches}
+use Rattle.bounds.proofs.branches.Statement.{statement}
+use Rattle.bounds.proofs.branches.Tie as tie
 
 within-at-requires : tie.Need-within-at-requires
 within-at-requires c κs = search needs

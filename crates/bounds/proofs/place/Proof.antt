@@ -1,10 +1,10 @@
--- `slenderness::place` meets its contract. Assumes nothing.
+-- `bounds::place` meets its contract. Assumes nothing.
 use native.Mathlib.Omega.{arith}
 use borrow.Author.Needs.{needs}
 use Rattle.ideal.specs.Decision.{cutOf}
-use Rattle.slenderness.proofs.Places.{lawful, far, found-near, found-far}
-use Rattle.slenderness.proofs.place.Statement.{statement}
-use Rattle.slenderness.proofs.place.Tie as tie
+use Rattle.bounds.proofs.Places.{lawful, far, found-near, found-far}
+use Rattle.bounds.proofs.place.Statement.{statement}
+use Rattle.bounds.proofs.place.Tie as tie
 
 highest-requires : tie.Need-highest-requires
 highest-requires c κs = search needs

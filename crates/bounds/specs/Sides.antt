@@ -1,7 +1,7 @@
 -- Where a number lies to the limits of the curves' branches.
 use mathlib.Core.Path.{_≡_}
 use Rattle.cylinder.specs.Cut.{Cut}
-use Rattle.slenderness.specs.declared.Limits.{Limits}
+use Rattle.bounds.specs.declared.Limits.{Limits}
 
 -- the limits, as the curves' definitions write them
 pub record Sides (c : Cut) (b : Limits) : Type 0 where

@@ -1,10 +1,10 @@
--- `bounds::is_short` meets its contract. Assumes nothing.
+-- `lengths::is_short` meets its contract. Assumes nothing.
 use mathlib.Core.Path.{sym, ap, _∙_}
 use borrow.Author.Needs.{needs}
 use Rattle.cylinder.specs.declared.Stress.{Stress}
-use Rattle.slenderness.specs.Short.{shortOf}
-use Rattle.bounds.proofs.is_short.Statement.{statement}
-use Rattle.bounds.proofs.is_short.Tie as tie
+use Rattle.lengths.specs.Short.{shortOf}
+use Rattle.lengths.proofs.is_short.Statement.{statement}
+use Rattle.lengths.proofs.is_short.Tie as tie
 
 enum-told : tie.Need-enum-told
 enum-told c = search needs

@@ -20,7 +20,7 @@ use Rattle.cylinder.specs.declared.Stress.{Stress}
 use Rattle.cylinder.specs.declared.Stress.the-variants.{Axial, Ring, Shear}
 use Rattle.ideal.specs.Decision.{cutOf}
 use Rattle.reach.specs.Highest.{Highest}
-use Rattle.slenderness.specs.Short.{shortOf}
+use Rattle.lengths.specs.Short.{shortOf}
 
 -- ---- each slenderness is a number below 536
 

@@ -1,9 +1,9 @@
--- `slenderness::reaches_at` meets its contract. Assumes nothing.
+-- `bounds::reaches_at` meets its contract. Assumes nothing.
 use native.Mathlib.Nat.{mul-le-mul}
 use native.Mathlib.Omega.{arith}
 use borrow.Author.Needs.{needs}
-use Rattle.slenderness.proofs.reaches_at.Statement.{statement}
-use Rattle.slenderness.proofs.reaches_at.Tie as tie
+use Rattle.bounds.proofs.reaches_at.Statement.{statement}
+use Rattle.bounds.proofs.reaches_at.Tie as tie
 
 mul-result : tie.Need-mul-result
 mul-result c = let p = c .before .pre in omega (arith, mul-le-mul (p .2) (p .0))
