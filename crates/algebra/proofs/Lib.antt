@@ -6,3 +6,4 @@ pub mod Nonlinear
 pub mod Polynomial
 pub mod Powers
 pub mod Ring
+pub mod Tests

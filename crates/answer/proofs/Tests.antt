@@ -1,6 +1,6 @@
 -- Laws of tests one after the other. Assumes nothing.
-use mathlib.Core.Path.{_≡_, refl, sym, _∙_}
-use mathlib.Core.Bool.{Bool, true, false, _&&_, not, true≢false}
+use mathlib.Core.Path.{_≡_, sym, _∙_}
+use mathlib.Core.Bool.{Bool, true, false, not}
 use borrow.Author.Tests.{not-true, not-false}
 use Rattle.cylinder.specs.Number.{pick}
 
@@ -14,20 +14,8 @@ told-not {f} e h = sym e ∙ not-true f h
 pub told-yes : {f t : Bool} → f ≡ t → not f ≡ false → t ≡ true
 told-yes {f} e h = sym e ∙ not-false f h
 
--- both tests, by the first
-pub and-on : {a b r : Bool} → a ≡ true → r ≡ b → r ≡ (a && b)
-and-on e f = rw e f
-
-pub and-off : {a : Bool} (b : Bool) → a ≡ false → false ≡ (a && b)
-and-off b e = rw e
-
 pub pick-on : {A : Type 0} {b : Bool} {r x : A} (y : A) → b ≡ true → r ≡ x → r ≡ pick b x y
 pick-on y e f = rw e f
 
 pub pick-off : {A : Type 0} {b : Bool} {r y : A} (x : A) → b ≡ false → r ≡ y → r ≡ pick b x y
 pick-off x e f = rw e f
-
--- and back
-pub and-true : (a b : Bool) → (a && b) ≡ true → (a ≡ true) × (b ≡ true)
-and-true true b h = (refl, h)
-and-true false b h = absurd (true≢false (sym h))

@@ -16,7 +16,7 @@ use Rattle.cylinder.specs.WholeTerm.{Term, formula}
 use Rattle.cylinder.specs.WholeStress.{excess}
 use Rattle.cylinder.specs.Search.{grid, place, most, bounds}
 use Rattle.cylinder.proofs.Search.{most-edge}
-use Rattle.cylinder.proofs.Tests.{and-true}
+use Rattle.algebra.proofs.Tests.{and-true}
 use Rattle.ideal.specs.Decision.{cutOf}
 use Rattle.lengths.specs.Short.{shortOf}
 use Rattle.bounds.specs.Sides.{Sides}

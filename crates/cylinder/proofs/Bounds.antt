@@ -10,7 +10,7 @@ use Rattle.algebra.proofs.Fractions.{carry, lift}
 use Rattle.algebra.proofs.Powers.{cross-pow}
 use Rattle.cylinder.specs.Cut.{Cut}
 use Rattle.cylinder.specs.WholeTerm.{Term, formula}
-use Rattle.cylinder.proofs.Tests.{clash}
+use Rattle.algebra.proofs.Tests.{clash}
 use Rattle.cylinder.proofs.Falls.{Falls}
 use Rattle.cylinder.proofs.Lawful.{Lawful, Beyond}
 use Rattle.cylinder.proofs.Slow.{Slow, accurate}

@@ -1,6 +1,6 @@
 -- Within the limits each slenderness is below 536.
-use mathlib.Core.Path.{_≡_, refl}
-use mathlib.Core.Bool.{Bool, true, false, _&&_}
+use mathlib.Core.Path.{_≡_}
+use mathlib.Core.Bool.{Bool, true, false}
 use Prim.Native.Nat.{ℕ, _+_, _*_, _-_, _^_, _≤_, _<_}
 use native.Mathlib.Nat.{mul-pos, mul-le-mul, mul-le-mul-left, mul-le-mul-right, mul-lt-mul-of-pos-left, le-trans, sub-le, one-le-pow}
 use native.Mathlib.Omega.{arith}
@@ -11,11 +11,8 @@ use Rattle.cylinder.specs.Number.{pick}
 use Rattle.cylinder.specs.Cut.{Cut}
 use Rattle.cylinder.specs.WholeIdeal.{ringEdges, axialShort, ringShort, shearShort, axialShortS, axialBent, axialLongS, axialS, ringShortS, ringLongS, ringS, shearShortS, shearLongS, shearS}
 use Rattle.algebra.proofs.Powers.{pow-two, pow-three, pow-four}
+use Rattle.algebra.proofs.Tests.{missed-right}
 use Rattle.cylinder.proofs.Limits.{Sound, edges-four}
-
-and-false : (a b : Bool) → b ≡ false → (a && b) ≡ false
-and-false true b e = e
-and-false false b e = refl
 
 pick-far : (b : Bool) (s t : Cut) → s .reaches 536 1 ≡ false → t .reaches 536 1 ≡ false → pick b s t .reaches 536 1 ≡ false
 pick-far true s t h g = h
@@ -45,7 +42,7 @@ module _ (s : Shell) (ok : Sound s) where
           )
 
   axial-long-far : axialLongS s .reaches 536 1 ≡ false
-  axial-long-far = and-false (axialBent s .reaches (536 ^ 2) (1 ^ 2)) _ (lt-leb _ _ less)
+  axial-long-far = missed-right (axialBent s .reaches (536 ^ 2) (1 ^ 2)) _ (lt-leb _ _ less)
     where
       less : 400000 * s .radius * s .«yield_stress» * 1 ^ 2 < 536 ^ 2 * (6 * (121 * s .modulus * s .wall))
       less = omega (arith, mul-le-mul (ok .thick) (ok .soft), mul-le-mul-left (s .wall) (ok .modulus), ok .wall)

@@ -19,7 +19,7 @@ use Rattle.cylinder.specs.WholeIdeal
 use Rattle.cylinder.specs.WholeTerm.{Term, formula}
 use Rattle.cylinder.specs.WholeStress.{excess, axialTerm, ringTerm, shearTerm}
 use Rattle.cylinder.specs.Search.{grid, place, most, around, bounds, judge}
-use Rattle.cylinder.proofs.Tests.{and-true, and-rest}
+use Rattle.algebra.proofs.Tests.{and-true, and-rest}
 use Rattle.cylinder.proofs.Placed.{Placed}
 use Rattle.cylinder.proofs.Bounds.{Attains, Fit, fit-lower, fit-upper, fit-next}
 use Rattle.cylinder.proofs.Branches.{same1, same2}

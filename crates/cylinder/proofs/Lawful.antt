@@ -10,7 +10,7 @@ use borrow.Author.Tests.{leb-true, leb-false, le-leb}
 use Rattle.cylinder.specs.Number.{pick}
 use Rattle.cylinder.specs.Cut.{Cut, fraction, rootOf, overSum, overDifference, smaller, rootAtMost, rootAtLeast}
 use Rattle.algebra.proofs.Powers.{cross-pow, mul-pow, pow-two, pow-four}
-use Rattle.cylinder.proofs.Tests.{and-true, and-false, or-true, or-false, both-true}
+use Rattle.algebra.proofs.Tests.{and-true, and-false, or-true, or-false, both-true}
 use Rattle.density.proofs.Density.{dense}
 use Rattle.density.proofs.Roots.{plus-down, plus-meet, plus-above, minus-down, minus-meet, minus-above}
 

@@ -23,4 +23,3 @@ pub mod Curve1
 pub mod Curve2
 pub mod Falls
 pub mod Slow
-pub mod Tests

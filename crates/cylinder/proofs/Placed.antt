@@ -8,7 +8,7 @@ use native.Mathlib.Omega.{arith}
 use lib.Dec.{leb, lit<}
 use borrow.Author.Tests.{le-leb, lt-leb}
 use Rattle.cylinder.specs.Cut.{Cut}
-use Rattle.cylinder.proofs.Tests.{clash}
+use Rattle.algebra.proofs.Tests.{clash}
 use Rattle.cylinder.proofs.Lawful.{Lawful}
 
 -- k/q is the largest point that s reaches. The points with the denominator 20 are on the grid, which is fine, and finer below 2.

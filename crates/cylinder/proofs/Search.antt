@@ -13,7 +13,7 @@ use Rattle.cylinder.specs.Number.{pick}
 use Rattle.cylinder.specs.Cut.{Cut}
 use Rattle.cylinder.specs.WholeTerm.{Term, formula}
 use Rattle.cylinder.specs.Search.{grid, place, most}
-use Rattle.cylinder.proofs.Tests.{and-true, both-true}
+use Rattle.algebra.proofs.Tests.{and-true, both-true}
 use Rattle.cylinder.proofs.Lawful.{Lawful, zero-pow}
 use Rattle.cylinder.proofs.Placed.{Placed, misses-over}
 use Rattle.cylinder.proofs.Bounds.{formula-down}

@@ -9,7 +9,7 @@ use Rattle.algebra.proofs.Fractions.{lift}
 use Rattle.algebra.proofs.Powers.{mul-pow, cross-pow, pow-two, pow-three}
 use Rattle.cylinder.specs.Factor.{Factor, constant, falling, inverse, divided, times}
 use Rattle.cylinder.specs.WholeTerm.{Term, formula}
-use Rattle.cylinder.proofs.Tests.{clash}
+use Rattle.algebra.proofs.Tests.{clash}
 
 -- the factor at k/q is at most d/c of that at (k + 1)/q
 abbrev pub Slow : ℕ → ℕ → Factor → ℕ → ℕ → Type 0

@@ -1,16 +1,16 @@
 -- Products of a cylinder's numbers, bounded. Assumes nothing.
 use Prim.Native.Nat.{ℕ, _*_, _^_, _≤_, _<_}
 use mathlib.Core.Path.{_≡_, sym}
-use mathlib.Core.Bool.{Bool, true, false}
-use lib.Dec.{leb, eqb, lit≤}
+use mathlib.Core.Bool.{true}
+use lib.Dec.{leb, eqb}
 use borrow.Author.Tests.{le-leb}
 use Rattle.algebra.proofs.Powers.{pow-two, pow-three}
-use Rattle.cylinder.specs.Number.{pick}
 use Rattle.cylinder.specs.WholeIdeal.{ringShort, ringEdges}
 use native.Mathlib.Nat.{mul-le-mul, mul-assoc}
 use native.Mathlib.Omega.{arith}
 use Rattle.cylinder.specs.declared.Shell.{Shell}
 use Rattle.cylinder.specs.Within.{Within}
+use Rattle.cylinder.proofs.Limits.{edges-four}
 
 module _ (s : Shell) (ok : Within s) where
   pub length-two : s .length * s .length ≤ 40000000000
@@ -53,15 +53,10 @@ module _ (c r : ℕ) (small : c ≤ 6) (below : r < 11500) where
 pub wide-enough : (c r x : ℕ) → 4 ≤ c → 11500 ≤ r → x ≤ 800000000000000 → 800 * x ≤ 26569 * (c * c) * (r * r * r)
 wide-enough c r x four from h = omega (arith, mul-le-mul (mul-le-mul four four) (mul-le-mul (mul-le-mul from from) from))
 
-edges-least : (a b : Bool) → 4 ≤ pick a 6 (pick b 5 4)
-edges-least true b = lit≤ tt
-edges-least false true = lit≤ tt
-edges-least false false = lit≤ tt
-
 pub short-from : (s : Shell) → Within s → 11500 ≤ s .radius → true ≡ ringShort s
 short-from s ok from = sym (le-leb (800 * s .length ^ 2 * s .wall) (26569 * ringEdges (s .edges) ^ 2 * s .radius ^ 3) enough)
   where
     enough : 800 * s .length ^ 2 * s .wall ≤ 26569 * ringEdges (s .edges) ^ 2 * s .radius ^ 3
     enough =
         simp (pow-two, pow-three)
-        (omega (arith, wide-enough (ringEdges (s .edges)) (s .radius) (s .length * s .length * s .wall) (edges-least (eqb (s .edges) 11) (eqb (s .edges) 12)) from (length-wall s ok)))
+        (omega (arith, wide-enough (ringEdges (s .edges)) (s .radius) (s .length * s .length * s .wall) (edges-four (eqb (s .edges) 11) (eqb (s .edges) 12)) from (length-wall s ok)))

@@ -11,6 +11,7 @@ use Rattle.cylinder.specs.declared.Shell.{Shell}
 use Rattle.cylinder.specs.Cut.{rootOf}
 use Rattle.cylinder.specs.WholeIdeal.{ringEdges, axialShortS, axialFloor, ringShortS, ringLongS, shearLongS}
 use Rattle.roots.specs.Largest.{largest}
+use Rattle.ideal.proofs.Rows.{axial-floor-right, ring-short-right, shear-long-right}
 use Rattle.reach.specs.Highest.{Highest}
 use Rattle.reach.proofs.Searches.{by-root}
 
@@ -25,14 +26,8 @@ axial-short-y r l f q = ring (r ∷ l ∷ f ∷ q ∷ []) (search quoted depth 6
 axial-floor-x : (E w : ℕ) → prod (726 ∷ E ∷ w ∷ []) ≡ 6 * (121 * E * w)
 axial-floor-x E w = ring (E ∷ w ∷ []) (search quoted depth 60 fits 100000) refl
 
-axial-floor-y : (r f q : ℕ) → prod (400000 ∷ r ∷ f ∷ q ∷ q ∷ []) ≡ 400000 * r * f * q ^ 2
-axial-floor-y r f q = ring (r ∷ f ∷ q ∷ []) (search quoted depth 60 fits 100000) refl
-
 ring-short-x : (c E w p : ℕ) → (23 * c * E * w * p ^ 2) ^ 2 * w ≡ p ^ 4 * prod (529 ∷ c ∷ c ∷ E ∷ E ∷ w ∷ w ∷ w ∷ [])
 ring-short-x c E w p = ring (c ∷ E ∷ w ∷ p ∷ []) (search quoted depth 60 fits 100000) refl
-
-ring-short-y : (r l f q : ℕ) → prod (80000000000 ∷ r ∷ l ∷ l ∷ f ∷ f ∷ q ∷ q ∷ q ∷ q ∷ []) ≡ (20000 * l * f * q ^ 2) ^ 2 * (200 * r)
-ring-short-y r l f q = ring (r ∷ l ∷ f ∷ q ∷ []) (search quoted depth 60 fits 100000) refl
 
 ring-long-x : (E w l c r : ℕ) → prod (44 ∷ E ∷ w ∷ w ∷ l ∷ l ∷ l ∷ l ∷ []) + prod (50750 ∷ E ∷ c ∷ c ∷ c ∷ c ∷ r ∷ r ∷ r ∷ r ∷ r ∷ r ∷ [])
     ≡ E * (44 * w ^ 2 * l ^ 4 + 50750 * c ^ 4 * r ^ 6)
@@ -43,9 +38,6 @@ ring-long-y r l f q = ring (r ∷ l ∷ f ∷ q ∷ []) (search quoted depth 60 
 
 shear-long-x : (E w : ℕ) → prod (3 ∷ E ∷ E ∷ w ∷ w ∷ w ∷ []) ≡ 3 * E ^ 2 * w ^ 3
 shear-long-x E w = ring (E ∷ w ∷ []) (search quoted depth 60 fits 100000) refl
-
-shear-long-y : (r f q : ℕ) → prod (128000000 ∷ r ∷ r ∷ r ∷ f ∷ f ∷ q ∷ q ∷ q ∷ q ∷ []) ≡ 128000000 * r ^ 3 * f ^ 2 * q ^ 4
-shear-long-y r f q = ring (r ∷ f ∷ q ∷ []) (search quoted depth 60 fits 100000) refl
 
 -- ---- the rows
 
@@ -60,7 +52,7 @@ module _ (s : Shell) (q cap : ℕ) (small : cap < base) where
   pub axial-floor-row : {k x y : ℕ} → k ≡ largest 2 cap x y → x ≡ prod (726 ∷ s .modulus ∷ s .wall ∷ []) → y ≡ prod (400000 ∷ s .radius ∷ s .«yield_stress» ∷ q ∷ q ∷ [])
       → Highest (rootOf 2 (axialFloor s)) q cap k
   axial-floor-row is x y =
-      by-root (rootOf 2 (axialFloor s)) q cap 2 _ _ (lit< tt) small (λ k. refl) is (x ∙ axial-floor-x (s .modulus) (s .wall)) (y ∙ axial-floor-y (s .radius) (s .«yield_stress») q)
+      by-root (rootOf 2 (axialFloor s)) q cap 2 _ _ (lit< tt) small (λ k. refl) is (x ∙ axial-floor-x (s .modulus) (s .wall)) (y ∙ axial-floor-right (s .radius) (s .«yield_stress») q)
 
   pub ring-short-row : {c k x y : ℕ} → c ≡ ringEdges (s .edges) → k ≡ largest 4 cap x y
       → x ≡ prod (529 ∷ c ∷ c ∷ s .modulus ∷ s .modulus ∷ s .wall ∷ s .wall ∷ s .wall ∷ [])
@@ -69,7 +61,7 @@ module _ (s : Shell) (q cap : ℕ) (small : cap < base) where
       by-root (ringShortS s) q cap 4 (prod (529 ∷ ringEdges (s .edges) ∷ ringEdges (s .edges) ∷ s .modulus ∷ s .modulus ∷ s .wall ∷ s .wall ∷ s .wall ∷ []))
       ((20000 * s .length * s .«yield_stress» * q ^ 2) ^ 2 * (200 * s .radius)) (lit< tt) small
       (λ k. ap (λ (z : ℕ). leb z ((20000 * s .length * s .«yield_stress» * q ^ 2) ^ 2 * (200 * s .radius))) (ring-short-x (ringEdges (s .edges)) (s .modulus) (s .wall) k)) is
-      (x ∙ rw h) (y ∙ ring-short-y (s .radius) (s .length) (s .«yield_stress») q)
+      (x ∙ rw h) (y ∙ ring-short-right (s .radius) (s .length) (s .«yield_stress») q)
 
   pub ring-long-row : {c k x y : ℕ} → c ≡ ringEdges (s .edges) → k ≡ largest 2 cap x y
       → x ≡ prod (44 ∷ s .modulus ∷ s .wall ∷ s .wall ∷ s .length ∷ s .length ∷ s .length ∷ s .length ∷ [])
@@ -82,4 +74,4 @@ module _ (s : Shell) (q cap : ℕ) (small : cap < base) where
   pub shear-long-row : {k x y : ℕ} → k ≡ largest 4 cap x y → x ≡ prod (3 ∷ s .modulus ∷ s .modulus ∷ s .wall ∷ s .wall ∷ s .wall ∷ [])
       → y ≡ prod (128000000 ∷ s .radius ∷ s .radius ∷ s .radius ∷ s .«yield_stress» ∷ s .«yield_stress» ∷ q ∷ q ∷ q ∷ q ∷ []) → Highest (shearLongS s) q cap k
   shear-long-row is x y =
-      by-root (shearLongS s) q cap 4 _ _ (lit< tt) small (λ k. refl) is (x ∙ shear-long-x (s .modulus) (s .wall)) (y ∙ shear-long-y (s .radius) (s .«yield_stress») q)
+      by-root (shearLongS s) q cap 4 _ _ (lit< tt) small (λ k. refl) is (x ∙ shear-long-x (s .modulus) (s .wall)) (y ∙ shear-long-right (s .radius) (s .«yield_stress») q)

@@ -11,7 +11,7 @@ use Rattle.algebra.specs.Bisection.{Edge}
 use Rattle.algebra.proofs.Bisection.{bisect-edge}
 use Rattle.wide.specs.Value.{base}
 use Rattle.cylinder.specs.Cut.{Cut, smaller}
-use Rattle.cylinder.proofs.Tests.{and-true, both-true, and-rest}
+use Rattle.algebra.proofs.Tests.{and-true, both-true, and-rest, missed-left, missed-right}
 use Rattle.cylinder.proofs.Lawful.{Lawful}
 use Rattle.roots.specs.Largest.{test, largest}
 use Rattle.roots.proofs.Largest.{nothing, over}
@@ -65,13 +65,6 @@ found {c} {q} {cap} {lo} {hi} b e =
     record { most = omega (arith, b .upper); reached = b .reached; missed = λ lt. rw e at (b .missed (omega arith)) }
 
 -- ---- the smaller of two numbers
-
-missed-left : (a b : Bool) → a ≡ false → (a && b) ≡ false
-missed-left a b h = rw h
-
-missed-right : (a b : Bool) → b ≡ false → (a && b) ≡ false
-missed-right true b h = h
-missed-right false b h = refl
 
 -- s is looked for up to where t is found
 pub both-highest : (s t : Cut) (q cap k r : ℕ) → 0 < q → Lawful t → Highest t q cap k → Highest s q k r → Highest (smaller s t) q cap r

@@ -4,7 +4,7 @@ use mathlib.Core.Bool.{true, _&&_}
 use Prim.Native.Nat.{ℕ, _≤_}
 use lib.Dec.{leb}
 use borrow.Author.Tests.{leb-true}
-use Rattle.answer.proofs.Tests.{and-true}
+use Rattle.algebra.proofs.Tests.{and-true}
 use Rattle.record.specs.declared.Record.{Record}
 use Rattle.record.specs.Limits.{within, dimensions, material, stresses, inRange}
 

@@ -20,7 +20,7 @@ use Rattle.answer.specs.declared.Answer.the-variants.{Refused, Holds, Fails, Op
 use Rattle.record.specs.Limits.{inRange, edgesKnown, wallRatio, lengthRatio, tolerated, refusal, shellOf}
 use Rattle.answer.specs.Answers.{verdict, Bounded}
 use Rattle.record.specs.Judged.{boundsOf, answerOf, judged, passes, Bounds, Right, refused, holds, fails, open-band}
-use Rattle.answer.proofs.Tests.{and-true}
+use Rattle.algebra.proofs.Tests.{and-true}
 use Rattle.record.proofs.Checks.{between, ranges}
 
 -- the checks below n are passed

@@ -1,6 +1,7 @@
 -- `record::Record::has_dimensions` meets its contract. Assumes nothing.
 use borrow.Author.Needs.{needs}
-use Rattle.answer.proofs.Tests.{told, and-on, and-off}
+use Rattle.algebra.proofs.Tests.{and-on, and-off}
+use Rattle.answer.proofs.Tests.{told}
 use Rattle.record.proofs.Record.has_dimensions.Statement.{statement}
 use Rattle.record.proofs.Record.has_dimensions.Tie as tie
 

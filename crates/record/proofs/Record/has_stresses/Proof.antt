@@ -1,7 +1,7 @@
 -- `record::Record::has_stresses` meets its contract. Assumes nothing.
 use mathlib.Core.Path.{refl}
 use borrow.Author.Tests.{le-leb, lt-leb}
-use Rattle.answer.proofs.Tests.{and-on, and-off}
+use Rattle.algebra.proofs.Tests.{and-on, and-off}
 use Rattle.record.proofs.Record.has_stresses.Statement.{statement}
 use Rattle.record.proofs.Record.has_stresses.Tie as tie
 

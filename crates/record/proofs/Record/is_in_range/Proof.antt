@@ -1,6 +1,7 @@
 -- `record::Record::is_in_range` meets its contract. Assumes nothing.
 use borrow.Author.Needs.{needs}
-use Rattle.answer.proofs.Tests.{told, and-on, and-off}
+use Rattle.algebra.proofs.Tests.{and-on, and-off}
+use Rattle.answer.proofs.Tests.{told}
 use Rattle.record.proofs.Record.is_in_range.Statement.{statement}
 use Rattle.record.proofs.Record.is_in_range.Tie as tie
 

@@ -1,4 +1,4 @@
--- Tests joined by and, or.
+-- Tests joined by and, or: what the joined test says of its parts, and the parts of it. Assumes nothing.
 use mathlib.Core.Path.{_≡_, refl, sym, _∙_}
 use mathlib.Core.Bool.{Bool, true, false, _&&_, _||_, true≢false}
 use mathlib.Core.Logic.{_⊎_, inl, inr}
@@ -13,6 +13,20 @@ and-true false b h = (h, absurd (true≢false (sym h)))
 
 pub both-true : (a b : Bool) → a ≡ true → b ≡ true → (a && b) ≡ true
 both-true a b h g = rw (h, g)
+
+pub missed-left : (a b : Bool) → a ≡ false → (a && b) ≡ false
+missed-left a b h = rw h
+
+pub missed-right : (a b : Bool) → b ≡ false → (a && b) ≡ false
+missed-right true b h = h
+missed-right false b h = refl
+
+-- the joined test by its first part
+pub and-on : {a b r : Bool} → a ≡ true → r ≡ b → r ≡ (a && b)
+and-on e f = rw e f
+
+pub and-off : {a : Bool} (b : Bool) → a ≡ false → false ≡ (a && b)
+and-off b e = rw e
 
 pub or-false : (a b : Bool) → (a || b) ≡ false → (a ≡ false) × (b ≡ false)
 or-false true b h = (h, absurd (true≢false h))
