@@ -8,7 +8,6 @@
 
 enum { LIMBS = 96, REPEATS = 15, ROUNDS = 200000 };
 
-size_t bench_times_limb(uint64_t *l, size_t n, uint64_t k);
 size_t bench_times(uint64_t *l, size_t n, uint64_t k);
 size_t bench_square(uint64_t *l, const uint64_t *a, size_t n);
 size_t bench_fifth_power(uint64_t *l, const uint64_t *a, size_t n);
@@ -32,7 +31,7 @@ static void factors(size_t n, uint64_t below) {
     }
 }
 
-static void times_limb_ten(void) { memcpy(l, a, 11 * sizeof *l); sink += bench_times_limb(l, 10, 0x89abcdef); }
+static void times_limb_ten(void) { memcpy(l, a, 12 * sizeof *l); sink += bench_times(l, 10, 0x89abcdef); }
 static void times_ten(void) { memcpy(l, a, 12 * sizeof *l); sink += bench_times(l, 10, 0x0123456789abcdef); }
 static void copy_ten(void) { memcpy(l, a, 11 * sizeof *l); sink += l[3]; }
 static void square_ten(void) { sink += bench_square(l, a, 10); }
