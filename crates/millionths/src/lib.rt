@@ -71,30 +71,20 @@ fn exact_squares(x: &[u64; LIMBS], n: usize, y: &[u64; LIMBS], m: usize) -> u64
     roots::root(&a, i, &b, t, Degree::One, 2000000)
 }
 
-// How many millionths (y/x)^(5/4) reaches, up to 2,000,000, if bounds of x and y settle it.
-fn settled_quarters(x: Near, y: Near) -> Found
-    ensures { λ r. ⌜ (r .known ≡ true → (n m : ℕ) → Around x n → Around y m → r .at ≡ reachedBy FiveQuarters n m) ⌝ }
-{
-    let t = near::of(1000000000000);
-    let y5 = near::times(near::times(fifth(y), t), t);
-    settle::settled(fifth(x), y5, Degree::Four, 2000000)
-}
-
-// How many millionths 3 (y/x)² reaches, up to 2,000,000, if bounds of x and y settle it.
-fn settled_squares(x: Near, y: Near) -> Found
-    ensures { λ r. ⌜ (r .known ≡ true → (n m : ℕ) → Around x n → Around y m → r .at ≡ reachedBy ThreeSquares n m) ⌝ }
-{
-    let y2 = near::times(near::times(y, y), near::of(3000000));
-    settle::settled(near::times(x, x), y2, Degree::One, 2000000)
-}
-
 // How many millionths the power of y/x reaches, up to 2,000,000, if bounds of x and y settle it.
 fn settled(power: Power, x: Near, y: Near) -> Found
     ensures { λ r. ⌜ (r .known ≡ true → (n m : ℕ) → Around x n → Around y m → r .at ≡ reachedBy power n m) ⌝ }
 {
     match power {
-        Power::FiveQuarters => settled_quarters(x, y),
-        Power::ThreeSquares => settled_squares(x, y),
+        Power::FiveQuarters => {
+            let t = near::of(1000000000000);
+            let y5 = near::times(near::times(fifth(y), t), t);
+            settle::settled(fifth(x), y5, Degree::Four, 2000000)
+        }
+        Power::ThreeSquares => {
+            let y2 = near::times(near::times(y, y), near::of(3000000));
+            settle::settled(near::times(x, x), y2, Degree::One, 2000000)
+        }
     }
 }
 
