@@ -7,11 +7,18 @@ ghost use lib.ListN.{length};
 ghost use Rattle.wide.specs.Value.{limbs, value, Limbs, Is};
 ghost use Rattle.factors.specs.Product.{prod};
 ghost use Rattle.near.specs.Around.{Around};
-ghost use Rattle.roots.specs.Largest.{largest};
+ghost use Rattle.millionths.specs.Reached.{reachedBy};
+ghost use Rattle.millionths.specs.declared.Power.the-variants.{FiveQuarters, ThreeSquares};
 use guess::Degree;
 use near::Near;
 use settle::Found;
 use wide::LIMBS;
+
+// The power of a fraction y/x that a term is: (y/x)^(5/4) for axial and ring stress, 3 (y/x)² for shear.
+pub enum Power {
+    FiveQuarters,
+    ThreeSquares,
+}
 
 // Bounds of x times the product of four factors.
 fn bounds(f: [u64; 4], x: u64) -> Near
@@ -40,7 +47,7 @@ fn scaled(l: &mut [u64; LIMBS], f: [u64; 4], x: u64) -> usize
 // How many millionths (y/x)^(5/4) reaches, up to 2,000,000.
 fn exact_quarters(x: &[u64; LIMBS], n: usize, y: &[u64; LIMBS], m: usize) -> u64
     requires { ⌜ (Limbs (now x) n) × (Limbs (now y) m) × (n ≤ 11) × (m ≤ 11) ⌝ }
-    ensures { λ r. ⌜ r ≡ largest 4 2000000 (value (now (x .entry)) n ^ 5) (value (now (y .entry)) m ^ 5 * 1000000 ^ 4) ⌝ }
+    ensures { λ r. ⌜ r ≡ reachedBy FiveQuarters (value (now (x .entry)) n) (value (now (y .entry)) m) ⌝ }
 {
     let mut a = [0u64; LIMBS];
     let i = product::fifth_power(&mut a, x, n);
@@ -54,7 +61,7 @@ fn exact_quarters(x: &[u64; LIMBS], n: usize, y: &[u64; LIMBS], m: usize) -> u64
 // How many millionths 3 (y/x)² reaches, up to 2,000,000.
 fn exact_squares(x: &[u64; LIMBS], n: usize, y: &[u64; LIMBS], m: usize) -> u64
     requires { ⌜ (Limbs (now x) n) × (Limbs (now y) m) × (n ≤ 11) × (m ≤ 11) ⌝ }
-    ensures { λ r. ⌜ r ≡ largest 1 2000000 (value (now (x .entry)) n ^ 2) (3 * value (now (y .entry)) m ^ 2 * 1000000) ⌝ }
+    ensures { λ r. ⌜ r ≡ reachedBy ThreeSquares (value (now (x .entry)) n) (value (now (y .entry)) m) ⌝ }
 {
     let mut a = [0u64; LIMBS];
     let i = product::square(&mut a, x, n);
@@ -64,28 +71,39 @@ fn exact_squares(x: &[u64; LIMBS], n: usize, y: &[u64; LIMBS], m: usize) -> u64
     roots::root(&a, i, &b, t, Degree::One, 2000000)
 }
 
-// How many millionths (y/x)^(5/4) reaches, up to 2,000,000, if bounds of x and y settle it.
-fn settled_quarters(x: Near, y: Near) -> Found
-    ensures { λ r. ⌜ (r .known ≡ true → (n m : ℕ) → Around x n → Around y m → r .at ≡ largest 4 2000000 (n ^ 5) (m ^ 5 * 1000000 ^ 4)) ⌝ }
+// How many millionths the power of y/x reaches, up to 2,000,000, if bounds of x and y settle it.
+fn settled(power: Power, x: Near, y: Near) -> Found
+    ensures { λ r. ⌜ (r .known ≡ true → (n m : ℕ) → Around x n → Around y m → r .at ≡ reachedBy power n m) ⌝ }
 {
-    let t = near::of(1000000000000);
-    let y5 = near::times(near::times(fifth(y), t), t);
-    settle::settled(fifth(x), y5, Degree::Four, 2000000)
+    match power {
+        Power::FiveQuarters => {
+            let t = near::of(1000000000000);
+            let y5 = near::times(near::times(fifth(y), t), t);
+            settle::settled(fifth(x), y5, Degree::Four, 2000000)
+        }
+        Power::ThreeSquares => {
+            let y2 = near::times(near::times(y, y), near::of(3000000));
+            settle::settled(near::times(x, x), y2, Degree::One, 2000000)
+        }
+    }
 }
 
-// How many millionths 3 (y/x)² reaches, up to 2,000,000, if bounds of x and y settle it.
-fn settled_squares(x: Near, y: Near) -> Found
-    ensures { λ r. ⌜ (r .known ≡ true → (n m : ℕ) → Around x n → Around y m → r .at ≡ largest 1 2000000 (n ^ 2) (3 * m ^ 2 * 1000000)) ⌝ }
+// How many millionths the power of y/x reaches, up to 2,000,000.
+fn exact(power: Power, x: &[u64; LIMBS], n: usize, y: &[u64; LIMBS], m: usize) -> u64
+    requires { ⌜ (Limbs (now x) n) × (Limbs (now y) m) × (n ≤ 11) × (m ≤ 11) ⌝ }
+    ensures { λ r. ⌜ r ≡ reachedBy power (value (now (x .entry)) n) (value (now (y .entry)) m) ⌝ }
 {
-    let y2 = near::times(near::times(y, y), near::of(3000000));
-    settle::settled(near::times(x, x), y2, Degree::One, 2000000)
+    match power {
+        Power::FiveQuarters => exact_quarters(x, n, y, m),
+        Power::ThreeSquares => exact_squares(x, n, y, m),
+    }
 }
 
-// How many millionths (y g/(x f))^(5/4) reaches, up to 2,000,000, with the products of f and g.
-pub fn five_quarters(f: [u64; 4], x: u64, g: [u64; 4], y: u64) -> u64
-    ensures { λ r. ⌜ r ≡ largest 4 2000000 ((x * prod f) ^ 5) ((y * prod g) ^ 5 * 1000000 ^ 4) ⌝ }
+// How many millionths the power of y g/(x f) reaches, up to 2,000,000, with the products of f and g.
+pub fn reached(power: Power, f: [u64; 4], x: u64, g: [u64; 4], y: u64) -> u64
+    ensures { λ r. ⌜ r ≡ reachedBy power (x * prod f) (y * prod g) ⌝ }
 {
-    let s = settled_quarters(bounds(f, x), bounds(g, y));
+    let s = settled(power, bounds(f, x), bounds(g, y));
     if s.known {
         return s.at;
     }
@@ -93,20 +111,5 @@ pub fn five_quarters(f: [u64; 4], x: u64, g: [u64; 4], y: u64) -> u64
     let n = scaled(&mut a, f, x);
     let mut b = [0u64; LIMBS];
     let m = scaled(&mut b, g, y);
-    exact_quarters(&a, n, &b, m)
-}
-
-// How many millionths 3 (y g/(x f))² reaches, up to 2,000,000, with the products of f and g.
-pub fn three_squares(f: [u64; 4], x: u64, g: [u64; 4], y: u64) -> u64
-    ensures { λ r. ⌜ r ≡ largest 1 2000000 ((x * prod f) ^ 2) (3 * (y * prod g) ^ 2 * 1000000) ⌝ }
-{
-    let s = settled_squares(bounds(f, x), bounds(g, y));
-    if s.known {
-        return s.at;
-    }
-    let mut a = [0u64; LIMBS];
-    let n = scaled(&mut a, f, x);
-    let mut b = [0u64; LIMBS];
-    let m = scaled(&mut b, g, y);
-    exact_squares(&a, n, &b, m)
+    exact(power, &a, n, &b, m)
 }

@@ -13,7 +13,8 @@ use Rattle.factors.specs.Product.{prod}
 use Rattle.cylinder.specs.declared.Shell.{Shell}
 use Rattle.cylinder.specs.Cut.{rootOf}
 use Rattle.cylinder.specs.WholeIdeal.{eta, axialBent, shearShortS}
-use Rattle.rooted.proofs.Rows.{shear-short-row, axial-bent-row, axial-bent-low}
+use Rattle.bent.proofs.Row.{axial-bent-row, axial-bent-low}
+use Rattle.sheared.proofs.Row.{shear-short-row}
 
 -- ---- plain numbers
 

@@ -1,3 +1,1 @@
--- The laws.
 pub mod Decision
-pub mod Rows

@@ -12,8 +12,9 @@ use Rattle.cylinder.specs.WholeTerm.{Term}
 use Rattle.cylinder.specs.Search.{most}
 use Rattle.cylinder.specs.declared.Stress.{Stress}
 use Rattle.cylinder.specs.declared.Stress.the-variants.{Axial, Ring, Shear}
+use Rattle.millionths.specs.Reached.{reachedBy}
 use Rattle.term.specs.declared.Branches.{Branches}
-use Rattle.term.specs.TermOf.{factor1, factor2, factorOf, termOf}
+use Rattle.term.specs.TermOf.{factor1, factor2, factorOf, termOf, powerOf}
 
 -- x and y in the largest root of a term's formula
 abbrev below : Term → ℕ → ℕ → ℕ
@@ -33,26 +34,19 @@ pub most-is : (t : Term) (p q : ℕ) → 0 < t .rise → largest (t .rise) 20000
 most-is t p q pos = sym (largest-only (t .rise) 2000000 (below t p q) (above t p q) pos (omega arith) (most t p q) (edge t p q pos))
 
 -- for axial and ring stress
-fifths : (f : Factor) (c a p q x y : ℕ) → x ≡ c * f .num p q → y ≡ a * f .den p q
-    → largest 4 2000000 (x ^ 5) (y ^ 5 * 1000000 ^ 4) ≡ most record { rise = 4; power = 5; top = c ^ 5; load = a ^ 5; factor = f } p q
-fifths f c a p q x y h k =
-    rw (h, k, mul-pow c (f .num p q) 5, mul-pow a (f .den p q) 5) (most-is record { rise = 4; power = 5; top = c ^ 5; load = a ^ 5; factor = f } p q (omega arith))
+fifths : (f : Factor) (c a p q : ℕ) → largest 4 2000000 ((c * f .num p q) ^ 5) ((a * f .den p q) ^ 5 * 1000000 ^ 4) ≡ most record { rise = 4; power = 5; top = c ^ 5; load = a ^ 5; factor = f } p q
+fifths f c a p q = rw (mul-pow c (f .num p q) 5, mul-pow a (f .den p q) 5) (most-is record { rise = 4; power = 5; top = c ^ 5; load = a ^ 5; factor = f } p q (omega arith))
 
 -- for shear
-squares : (f : Factor) (c a p q x y : ℕ) → x ≡ c * f .num p q → y ≡ a * f .den p q
-    → largest 1 2000000 (x ^ 2) (3 * y ^ 2 * 1000000) ≡ most record { rise = 1; power = 2; top = c ^ 2; load = 3 * a ^ 2; factor = f } p q
-squares f c a p q x y h k = rw (h, k, mul-pow c (f .num p q) 2, apart) (most-is record { rise = 1; power = 2; top = c ^ 2; load = 3 * a ^ 2; factor = f } p q (omega arith))
+squares : (f : Factor) (c a p q : ℕ) → largest 1 2000000 ((c * f .num p q) ^ 2) (3 * (a * f .den p q) ^ 2 * 1000000) ≡ most record { rise = 1; power = 2; top = c ^ 2; load = 3 * a ^ 2; factor = f } p q
+squares f c a p q = rw (mul-pow c (f .num p q) 2, apart) (most-is record { rise = 1; power = 2; top = c ^ 2; load = 3 * a ^ 2; factor = f } p q (omega arith))
   where
     apart : 3 * (a * f .den p q) ^ 2 ≡ 3 * a ^ 2 * f .den p q ^ 2
     apart = rw (mul-pow a (f .den p q) 2) (omega arith)
 
--- the three stresses: x and y are the two sides of the comparison, before they are raised
-module _ (s : Stress) (b : Branches) (fy num den e k q x y : ℕ) (hx : x ≡ 10000 * fy * den * factorOf s b e .num k q) (hy : y ≡ 11 * num * factorOf s b e .den k q) where
-  pub axial-most : s ≡ Axial → largest 4 2000000 (x ^ 5) (y ^ 5 * 1000000 ^ 4) ≡ most (termOf s b fy num den e) k q
-  axial-most h = rw h (fifths (factor2 b e) (10000 * fy * den) (11 * num) k q x y (rw h at hx) (rw h at hy))
-
-  pub ring-most : s ≡ Ring → largest 4 2000000 (x ^ 5) (y ^ 5 * 1000000 ^ 4) ≡ most (termOf s b fy num den e) k q
-  ring-most h = rw h (fifths (factor1 b e) (10000 * fy * den) (11 * num) k q x y (rw h at hx) (rw h at hy))
-
-  pub shear-most : s ≡ Shear → largest 1 2000000 (x ^ 2) (3 * y ^ 2 * 1000000) ≡ most (termOf s b fy num den e) k q
-  shear-most h = rw h (squares (factor1 b e) (10000 * fy * den) (11 * num) k q x y (rw h at hx) (rw h at hy))
+-- for each stress
+pub reached-is : (s : Stress) (b : Branches) (fy num den e k q : ℕ)
+    → reachedBy (powerOf s) (10000 * fy * den * factorOf s b e .num k q) (11 * num * factorOf s b e .den k q) ≡ most (termOf s b fy num den e) k q
+reached-is Axial b fy num den e k q = fifths (factor2 b e) (10000 * fy * den) (11 * num) k q
+reached-is Ring b fy num den e k q = fifths (factor1 b e) (10000 * fy * den) (11 * num) k q
+reached-is Shear b fy num den e k q = squares (factor1 b e) (10000 * fy * den) (11 * num) k q

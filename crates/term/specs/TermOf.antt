@@ -8,6 +8,8 @@ use Rattle.cylinder.specs.WholeCurves as curves
 use Rattle.cylinder.specs.WholeTerm.{Term}
 use Rattle.cylinder.specs.declared.Stress.{Stress}
 use Rattle.cylinder.specs.declared.Stress.the-variants.{Axial, Ring, Shear}
+use Rattle.millionths.specs.declared.Power.{Power}
+use Rattle.millionths.specs.declared.Power.the-variants.{FiveQuarters, ThreeSquares}
 use Rattle.term.specs.declared.Part.{Part}
 use Rattle.term.specs.declared.Part.the-variants.{Plateau, Line, Cubic, Quadratic}
 use Rattle.term.specs.declared.Branches.{Branches}
@@ -45,3 +47,9 @@ abbrev pub termOf : Stress → Branches → ℕ → ℕ → ℕ → ℕ → Term
 termOf Axial b fy num den e = record { rise = 4; power = 5; top = (10000 * fy * den) ^ 5; load = (11 * num) ^ 5; factor = factor2 b e }
 termOf Ring b fy num den e = record { rise = 4; power = 5; top = (10000 * fy * den) ^ 5; load = (11 * num) ^ 5; factor = factor1 b e }
 termOf Shear b fy num den e = record { rise = 1; power = 2; top = (10000 * fy * den) ^ 2; load = 3 * (11 * num) ^ 2; factor = factor1 b e }
+
+-- the power of a fraction that the term of a stress is
+abbrev pub powerOf : Stress → Power
+powerOf Axial = FiveQuarters
+powerOf Ring = FiveQuarters
+powerOf Shear = ThreeSquares

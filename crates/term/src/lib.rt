@@ -7,8 +7,9 @@ ghost use Rattle.wide.specs.Value.{base};
 ghost use Rattle.factors.specs.Product.{prod};
 ghost use Rattle.cylinder.specs.WholeCurves.{reduction1, reduction2, tolerance, safety};
 ghost use Rattle.cylinder.specs.Search.{most};
-ghost use Rattle.term.specs.TermOf.{partOf, factor1, factor2, factorOf, termOf};
+ghost use Rattle.term.specs.TermOf.{partOf, factor1, factor2, factorOf, termOf, powerOf};
 use cylinder::Stress;
+use millionths::Power;
 
 // The branch of the reduction factor κ.
 pub enum Part {
@@ -217,6 +218,17 @@ fn below(stress: Stress, b: Branches, e: u64, k: u64, q: u64) -> [u64; 4]
     }
 }
 
+// The power of a fraction that the term of a stress is.
+fn power_for(stress: Stress) -> Power
+    ensures { λ r. ⌜ r ≡ powerOf stress ⌝ }
+{
+    match stress {
+        Stress::Axial => Power::FiveQuarters,
+        Stress::Ring => Power::FiveQuarters,
+        Stress::Shear => Power::ThreeSquares,
+    }
+}
+
 // The low bound of a stress's term at the slenderness k/q: how many millionths it reaches, up to 2,000,000.
 // The stress is num/den kN/m², the yield stress fy N/mm², the imperfection e thousandths over the permitted one.
 pub fn low(stress: Stress, b: Branches, fy: u64, num: u64, den: u64, e: u64, k: u64, q: u64) -> u64
@@ -227,9 +239,5 @@ pub fn low(stress: Stress, b: Branches, fy: u64, num: u64, den: u64, e: u64, k: 
     let x = 10000 * fy * den;
     let g = below(stress, b, e, k, q);
     let y = 11 * num;
-    match stress {
-        Stress::Axial => millionths::five_quarters(f, x, g, y),
-        Stress::Ring => millionths::five_quarters(f, x, g, y),
-        Stress::Shear => millionths::three_squares(f, x, g, y),
-    }
+    millionths::reached(power_for(stress), f, x, g, y)
 }

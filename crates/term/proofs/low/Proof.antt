@@ -1,10 +1,11 @@
 -- `term::low` meets its contract. Assumes nothing.
-use borrow.Author.Needs.{needs}
-use mathlib.Core.Path.{_≡_, ap, _∙_}
-use Prim.Native.Nat.{ℕ, _*_}
+use mathlib.Core.Path.{_∙_}
+use Prim.Native.Nat.{_*_}
 use native.Mathlib.Omega.{arith}
+use borrow.Author.Needs.{needs}
+use Rattle.millionths.specs.Reached.{reachedBy}
 use Rattle.term.proofs.Products.{bounded}
-use Rattle.term.proofs.Millionths.{axial-most, ring-most, shear-most}
+use Rattle.term.proofs.Millionths.{reached-is}
 use Rattle.term.proofs.low.Statement.{statement}
 use Rattle.term.proofs.low.Tie as tie
 
@@ -23,47 +24,21 @@ below-requires c κs = search needs
 mul-y : tie.Need-mul-y
 mul-y c = search needs
 
-enum-told : tie.Need-enum-told
-enum-told c = search needs
+power-for-requires : tie.Need-power-for-requires
+power-for-requires c κs = search needs
 
-five-quarters-requires : tie.Need-five-quarters-requires
-five-quarters-requires c κs = search needs
-
-enum-told-2 : tie.Need-enum-told-2
-enum-told-2 c = search needs
-
-five-quarters-requires-2 : tie.Need-five-quarters-requires-2
-five-quarters-requires-2 c κs = search needs
-
-enum-told-3 : tie.Need-enum-told-3
-enum-told-3 c = search needs
-
-three-squares-requires : tie.Need-three-squares-requires
-three-squares-requires c κs = search needs
+reached-requires : tie.Need-reached-requires
+reached-requires c κs = search needs
 
 returns : tie.Need-returns
 returns c =
-    let t = c .before .before in
-    let a = t .before .before .before .args in
-    let u = ap (λ (v : ℕ). 10000 * a .fy * a .den * v) (t .before .before .above .ensures) in
-    let l = ap (λ (v : ℕ). 11 * a .num * v) (t .before .below .ensures) in
-    c .five-quarters .ensures ∙ axial-most (a .stress) (a .b) (a .fy) (a .num) (a .den) (a .e) (a .k) (a .q) _ _ u l (c .before .enum-told .given .1)
-
-returns-2 : tie.Need-returns-2
-returns-2 c =
-    let t = c .before .before in
-    let a = t .before .before .before .args in
-    let u = ap (λ (v : ℕ). 10000 * a .fy * a .den * v) (t .before .before .above .ensures) in
-    let l = ap (λ (v : ℕ). 11 * a .num * v) (t .before .below .ensures) in
-    c .five-quarters2 .ensures ∙ ring-most (a .stress) (a .b) (a .fy) (a .num) (a .den) (a .e) (a .k) (a .q) _ _ u l (c .before .enum-told2 .given .1)
-
-returns-3 : tie.Need-returns-3
-returns-3 c =
-    let t = c .before .before in
-    let a = t .before .before .before .args in
-    let u = ap (λ (v : ℕ). 10000 * a .fy * a .den * v) (t .before .before .above .ensures) in
-    let l = ap (λ (v : ℕ). 11 * a .num * v) (t .before .below .ensures) in
-    c .three-squares .ensures ∙ shear-most (a .stress) (a .b) (a .fy) (a .num) (a .den) (a .e) (a .k) (a .q) _ _ u l (c .before .enum-told3 .given .1)
+    let k = c .before in
+    let l = k .before in
+    let u = l .before in
+    let a = u .before .args in
+    c .reached .ensures
+    ∙ (λ i. reachedBy (k .power-for .ensures i) (10000 * a .fy * a .den * u .above .ensures i) (11 * a .num * l .below .ensures i))
+    ∙ reached-is (a .stress) (a .b) (a .fy) (a .num) (a .den) (a .e) (a .k) (a .q)
 
 pub low-spec : {M : Type 1} → statement M
 low-spec =
@@ -74,12 +49,6 @@ low-spec =
     mul-x-2
     below-requires
     mul-y
-    enum-told
-    five-quarters-requires
-    enum-told-2
-    five-quarters-requires-2
-    enum-told-3
-    three-squares-requires
-    returns
-    returns-2
-    returns-3)
+    power-for-requires
+    reached-requires
+    returns)
