@@ -8,7 +8,6 @@ ghost use Rattle.wide.specs.Value.{limbs, value, Limbs, Is};
 ghost use Rattle.factors.specs.Product.{prod};
 ghost use Rattle.near.specs.Around.{Around};
 ghost use Rattle.millionths.specs.Reached.{reachedBy};
-ghost use Rattle.millionths.specs.declared.Power.the-variants.{FiveQuarters, ThreeSquares};
 use guess::Degree;
 use near::Near;
 use settle::Found;
@@ -44,33 +43,6 @@ fn scaled(l: &mut [u64; LIMBS], f: [u64; 4], x: u64) -> usize
     product::times(l, n, x)
 }
 
-// How many millionths (y/x)^(5/4) reaches, up to 2,000,000.
-fn exact_quarters(x: &[u64; LIMBS], n: usize, y: &[u64; LIMBS], m: usize) -> u64
-    requires { ⌜ (Limbs (now x) n) × (Limbs (now y) m) × (n ≤ 11) × (m ≤ 11) ⌝ }
-    ensures { λ r. ⌜ r ≡ reachedBy FiveQuarters (value (now (x .entry)) n) (value (now (y .entry)) m) ⌝ }
-{
-    let mut a = [0u64; LIMBS];
-    let i = product::fifth_power(&mut a, x, n);
-    let mut b = [0u64; LIMBS];
-    let j = product::fifth_power(&mut b, y, m);
-    let t = product::times(&mut b, j, 1000000000000);
-    let u = product::times(&mut b, t, 1000000000000);
-    roots::root(&a, i, &b, u, Degree::Four, 2000000)
-}
-
-// How many millionths 3 (y/x)² reaches, up to 2,000,000.
-fn exact_squares(x: &[u64; LIMBS], n: usize, y: &[u64; LIMBS], m: usize) -> u64
-    requires { ⌜ (Limbs (now x) n) × (Limbs (now y) m) × (n ≤ 11) × (m ≤ 11) ⌝ }
-    ensures { λ r. ⌜ r ≡ reachedBy ThreeSquares (value (now (x .entry)) n) (value (now (y .entry)) m) ⌝ }
-{
-    let mut a = [0u64; LIMBS];
-    let i = product::square(&mut a, x, n);
-    let mut b = [0u64; LIMBS];
-    let j = product::square(&mut b, y, m);
-    let t = product::times(&mut b, j, 3000000);
-    roots::root(&a, i, &b, t, Degree::One, 2000000)
-}
-
 // How many millionths the power of y/x reaches, up to 2,000,000, if bounds of x and y settle it.
 fn settled(power: Power, x: Near, y: Near) -> Found
     ensures { λ r. ⌜ (r .known ≡ true → (n m : ℕ) → Around x n → Around y m → r .at ≡ reachedBy power n m) ⌝ }
@@ -93,9 +65,22 @@ fn exact(power: Power, x: &[u64; LIMBS], n: usize, y: &[u64; LIMBS], m: usize) -
     requires { ⌜ (Limbs (now x) n) × (Limbs (now y) m) × (n ≤ 11) × (m ≤ 11) ⌝ }
     ensures { λ r. ⌜ r ≡ reachedBy power (value (now (x .entry)) n) (value (now (y .entry)) m) ⌝ }
 {
+    let mut a = [0u64; LIMBS];
+    let mut b = [0u64; LIMBS];
     match power {
-        Power::FiveQuarters => exact_quarters(x, n, y, m),
-        Power::ThreeSquares => exact_squares(x, n, y, m),
+        Power::FiveQuarters => {
+            let i = product::fifth_power(&mut a, x, n);
+            let j = product::fifth_power(&mut b, y, m);
+            let t = product::times(&mut b, j, 1000000000000);
+            let u = product::times(&mut b, t, 1000000000000);
+            roots::root(&a, i, &b, u, Degree::Four, 2000000)
+        }
+        Power::ThreeSquares => {
+            let i = product::square(&mut a, x, n);
+            let j = product::square(&mut b, y, m);
+            let t = product::times(&mut b, j, 3000000);
+            roots::root(&a, i, &b, t, Degree::One, 2000000)
+        }
     }
 }
 

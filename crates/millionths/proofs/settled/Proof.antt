@@ -1,21 +1,14 @@
 -- `millionths::settled` meets its contract. Assumes nothing.
-use mathlib.Core.Path.{_≡_, refl, sym, ap, _∙_}
-use mathlib.Core.List.{[], _∷_}
-use Prim.Native.Nat.{ℕ, _*_, _^_}
+use mathlib.Core.Path.{refl, sym, ap, _∙_}
 use native.Mathlib.Omega.{arith}
-use Rattle.algebra.proofs.Ring.{ring, quoted}
+use Rattle.algebra.proofs.Powers.{pow-two}
 use Rattle.near.proofs.Bounds.{around-as}
 use borrow.Author.Needs.{needs}
 use Rattle.millionths.specs.declared.Power.{Power}
 use Rattle.millionths.specs.Reached.{reachedBy}
+use Rattle.millionths.proofs.Largest.{thrice}
 use Rattle.millionths.proofs.settled.Statement.{statement}
 use Rattle.millionths.proofs.settled.Tie as tie
-
-square : (n : ℕ) → n * n ≡ n ^ 2
-square n = ring (n ∷ []) (search quoted depth 60 fits 100000) refl
-
-load : (m : ℕ) → m * m * 3000000 ≡ 3 * m ^ 2 * 1000000
-load m = ring (m ∷ []) (search quoted depth 60 fits 100000) refl
 
 enum-told : tie.Need-enum-told
 enum-told c = search needs
@@ -72,7 +65,7 @@ returns-2 c says n m x y =
     let u = c .before .before in
     let o = u .before in
     let s = o .before in
-    c .settled2 .ensures says _ _ (around-as _ (square n) (c .before .times5 .ensures n n x x)) (around-as _ (load m) (u .times4 .ensures _ _ (s .times3 .ensures m m y y) (o .of2 .ensures)))
+    c .settled2 .ensures says _ _ (around-as _ (sym (pow-two n)) (c .before .times5 .ensures n n x x)) (around-as _ (thrice refl (sym (pow-two m))) (u .times4 .ensures _ _ (s .times3 .ensures m m y y) (o .of2 .ensures)))
     ∙ ap (λ (p : Power). reachedBy p n m) (sym (s .before .enum-told2 .given .1))
 
 pub settled-spec : {M : Type 1} → statement M
