@@ -21,7 +21,7 @@ pub fn axial_bent_order(s: Shell, p: u64, q: u64) -> Order
     let g = [400000, h, r, r, s.yield_stress, q, q];
     let mut b = [0u64; LIMBS];
     let m = factors::product_of(&mut b, &g);
-    if wide::at_most(&b, m, &a, n) {
+    if order::at_most(&b, m, &a, n) {
         let d = sums::subtract(&mut a, n, &b, m);
         let k = [121, s.modulus, s.wall, p, p, 4, s.length];
         let e = factors::product_of(&mut b, &k);

@@ -197,5 +197,5 @@ fn fifths(n: u64, y: u64, b: u64, m: u64, s: u64) -> bool
     let j = product::times(&mut f, i, b);
     let mut g = [0u64; LIMBS];
     let k = fifth(&mut g, &[m, s]);
-    wide::at_most(&f, j, &g, k)
+    order::at_most(&f, j, &g, k)
 }

@@ -2,7 +2,7 @@
 use mathlib.Core.Path.{_≡_, refl, sym, ap, ap₂, subst, _∙_}
 use Prim.Native.Nat.{ℕ, _+_, _-_, _*_, _/_, _≤_, _<_}
 use native.Mathlib.Decide.{decLt}
-use native.Mathlib.Nat.{mul-pos, le-trans, le-of-eq, le-of-lt, lt-of-le-of-lt, lt-of-lt-of-le, mul-assoc, mul-comm, mul-sub, mul-le-mul, mul-le-mul-right, mul-lt-mul-of-pos-right, lt-of-mul-lt-mul-right, le-of-mul-le-mul-right, div-mul-le-self, div-lt-iff-lt-mul}
+use native.Mathlib.Nat.{mul-pos, le-trans, le-of-eq, mul-assoc, mul-comm, mul-sub, mul-le-mul, mul-le-mul-right, le-of-mul-le-mul-right, div-mul-le-self, div-lt-iff-lt-mul}
 use native.Mathlib.Omega.{arith}
 use lib.Pow.{pow-add, pow-pos}
 use Rattle.near.specs.declared.Near.{Near}
@@ -16,10 +16,6 @@ power-add p q = pow-add 2 p q
 pub power-pos : (p : ℕ) → 0 < power p
 unfolding power
 power-pos p = pow-pos p
-
-pub power-two : power 1 ≡ 2
-unfolding power
-power-two = refl
 
 -- the scale, split at any power
 pub scale-split : (p q : ℕ) → p + q ≡ 4096 → power p * power q ≡ scale
@@ -68,13 +64,6 @@ times-high l m h x y P Q R T S pos e a b c =
 pub gap-times : (l m h g k T : ℕ) → l ≤ T → m ≤ T → g * k ≤ T → l * m ≤ (h + 3) * T → (l + g) * (m + k) ≤ (h + (g + k + 4)) * T
 gap-times l m h g k T a b c d = omega (arith, d, c, mul-le-mul-right g b, mul-le-mul-right k a)
 
--- a product above 0 has no factor 0
-pub factor-pos : (l m h T : ℕ) → 0 < h → 0 < T → h * T ≤ l * m → (0 < l) × (0 < m)
-factor-pos l m h T p q e = (pos l m (lt-of-lt-of-le (mul-pos p q) e), pos m l (lt-of-lt-of-le (mul-pos p q) (le-trans e (le-of-eq (mul-comm l m)))))
-  where
-    pos : (a b : ℕ) → 0 < a * b → 0 < a
-    pos a b h = elim (decLt 0 a) [ yes k ↦ k | no k ↦ let z : a ≡ 0 = omega arith in absurd (omega (arith, rw z at h)) ]
-
 -- bounds at a larger power: M is the step
 pub level-low : (l x P M S : ℕ) → 0 < M → l * P ≤ x * S → l / M * (M * P) ≤ x * S
 level-low l x P M S pos h = le-trans (le-of-eq (sym (mul-assoc (l / M) M P))) (le-trans (mul-le-mul-right P (div-mul-le-self l M)) h)
@@ -89,36 +78,26 @@ level-high l g x P M S pos h =
     sum : (a b : ℕ) → l < (a + 1) * M → g < (b + 1) * M → l + g ≤ (a + (b + 2)) * M
     sum a b h k = omega arith
 
--- bounds of a sum, halved
-pub plus-low : (l m x y P S : ℕ) → l * P ≤ x * S → m * P ≤ y * S → (l / 2 + m / 2) * (P * 2) ≤ (x + y) * S
-plus-low l m x y P S h k = omega (arith, h, k, mul-le-mul-right P (half l), mul-le-mul-right P (half m))
-  where
-    half : (n : ℕ) → n / 2 * 2 ≤ n
-    half n = omega arith
+-- bounds of a sum
+pub plus-low : (l m x y P S : ℕ) → l * P ≤ x * S → m * P ≤ y * S → (l + m) * P ≤ (x + y) * S
+plus-low l m x y P S h k = omega (arith, h, k)
 
-pub plus-high : (l m g k x y P S : ℕ) → x * S ≤ (l + g) * P → y * S ≤ (m + k) * P → (x + y) * S ≤ (l / 2 + m / 2 + (g / 2 + k / 2 + 2)) * (P * 2)
-plus-high l m g k x y P S h j = omega (arith, h, j, mul-le-mul-right P (half l), mul-le-mul-right P (half m), mul-le-mul-right P (half g), mul-le-mul-right P (half k))
-  where
-    half : (n : ℕ) → n ≤ n / 2 * 2 + 1
-    half n = omega arith
+pub plus-high : (l m g k x y P S : ℕ) → x * S ≤ (l + g) * P → y * S ≤ (m + k) * P → (x + y) * S ≤ (l + m + (g + k)) * P
+plus-high l m g k x y P S h j = omega (arith, h, j)
 
--- bounds of a difference
+-- bounds of a difference: n is the other's upper bound
 sub-times : (l m k : ℕ) → (l - m) * k ≡ l * k - m * k
 sub-times l m k = mul-comm (l - m) k ∙ mul-sub k l m ∙ ap₂ _-_ (mul-comm k l) (mul-comm k m)
 
-pub minus-low : (l m k x y P S : ℕ) → l * P ≤ x * S → y * S ≤ (m + k) * P → (l - m - k) * P ≤ (x - y) * S
-minus-low l m k x y P S h j = let e : l - m - k ≡ l - (m + k) = omega arith in rw (e, sub-times l (m + k) P, sub-times x y S) (omega arith)
+pub minus-low : (l n x y P S : ℕ) → l * P ≤ x * S → y * S ≤ n * P → (l - n) * P ≤ (x - y) * S
+minus-low l n x y P S h j = rw (sub-times l n P, sub-times x y S) (omega arith)
 
-pub minus-high : (l m g k x y P S : ℕ) → m ≤ l → k ≤ l - m → x * S ≤ (l + g) * P → m * P ≤ y * S → (x - y) * S ≤ (l - m - k + (g + k)) * P
-minus-high l m g k x y P S p q h j = let e : l - m - k + (g + k) ≡ l + g - m = omega arith in rw (e, sub-times (l + g) m P, sub-times x y S) (omega arith)
+pub minus-high : (l m g k x y P S : ℕ) → m + k ≤ l → x * S ≤ (l + g) * P → m * P ≤ y * S → (x - y) * S ≤ (l - (m + k) + (g + k)) * P
+minus-high l m g k x y P S p h j = let e : l - (m + k) + (g + k) ≡ l + g - m = omega arith in rw (e, sub-times (l + g) m P, sub-times x y S) (omega arith)
 
--- numbers whose bounds are apart
-pub apart : (l m x y P S : ℕ) → 0 < P → x * S ≤ l * P → m * P ≤ y * S → l < m → x < y
-apart l m x y P S pos h k lt = lt-of-mul-lt-mul-right S (lt-of-le-of-lt h (lt-of-lt-of-le (mul-lt-mul-of-pos-right lt pos) k))
-
--- where nothing is known, nothing is claimed
-pub nothing : {A : Type 0} (n : ℕ) → n ≡ 0 → 0 < n → A
-nothing n e known = absurd (omega arith)
+-- where a difference is above 0
+pub apart : (l x y P S : ℕ) → 0 < l → 0 < P → l * P ≤ (y - x) * S → x < y
+apart l x y P S pos p h = elim (decLt x y) [ yes k ↦ k | no k ↦ let z : y - x ≡ 0 = omega arith in absurd (omega (arith, mul-pos pos p, rw z at h)) ]
 
 -- bounds of a number in other words
 pub around-as : (a : Near) {n m : ℕ} → n ≡ m → Around a n → Around a m

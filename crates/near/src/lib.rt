@@ -3,8 +3,8 @@
 // condition: what does not fit comes out as nothing known.
 ghost use mathlib.Core.Path.{_≡_};
 ghost use mathlib.Core.Bool.{true};
-ghost use Prim.Native.Nat.{ℕ, _+_, _-_, _*_, _<_, _≤_};
-ghost use Rattle.near.specs.Around.{top, Around, At, Fits};
+ghost use Prim.Native.Nat.{ℕ, _+_, _-_, _*_, _/_, _^_, _<_, _≤_};
+ghost use Rattle.near.specs.Around.{top, Around, Fits, Levelled};
 
 // Half of a bound's bits: 2^32.
 const HALF: u64 = 4294967296;
@@ -16,25 +16,20 @@ pub struct Near {
     pub up: u64,
 }
 
-// Nothing known.
-fn unknown() -> Near
-    ensures { λ r. ⌜ (r .low ≡ 0) × (r .gap ≡ 0) ⌝ }
-{
-    Near {
-        low: 0,
-        gap: 0,
-        up: 0,
-    }
+// Bounds of two numbers at one power: the first is from a to a + g, the second from b to b + h.
+struct Pair {
+    a: u64,
+    g: u64,
+    b: u64,
+    h: u64,
+    up: u64,
 }
 
 // Bounds of a u64.
 pub fn of(x: u64) -> Near
     ensures { λ r. ⌜ Around r x ⌝ }
 {
-    let z = u64::leading_zeros(x);
-    if 63 < z {
-        return unknown();
-    }
+    let z = u64::leading_zeros(x) % 64;
     Near {
         low: x << z,
         gap: 0,
@@ -42,10 +37,13 @@ pub fn of(x: u64) -> Near
     }
 }
 
-// Whether the gap and the power are small enough to go on with.
+// Whether something is known, with a gap and a power that are small enough to go on with.
 fn fits(a: Near) -> bool
     ensures { λ r. ⌜ (r ≡ true → Fits a) ⌝ }
 {
+    if a.low < 1 {
+        return false;
+    }
     if HALF < a.gap {
         return false;
     }
@@ -53,6 +51,16 @@ fn fits(a: Near) -> bool
         return false;
     }
     a.up <= 8192
+}
+
+// Whether that is so of both.
+fn fit(a: Near, b: Near) -> bool
+    ensures { λ r. ⌜ (r ≡ true → (Fits a) × (Fits b)) ⌝ }
+{
+    if fits(a) {
+        return fits(b);
+    }
+    false
 }
 
 // The upper half of a product: up to two units of it may be missing.
@@ -70,64 +78,67 @@ fn head(a: u64, b: u64) -> u64
 pub fn times(a: Near, b: Near) -> Near
     ensures { λ r. ⌜ ((x y : ℕ) → Around a x → Around b y → Around r (x * y)) ⌝ }
 {
-    if fits(a) {
-        if fits(b) {
-            return Near {
-                low: head(a.low, b.low),
-                gap: a.gap + b.gap + 4,
-                up: a.up + b.up - 4032,
-            };
-        }
-    }
-    unknown()
-}
-
-// The same number with bounds at a larger power; nothing known where that is out of reach.
-fn level(a: Near, up: u64) -> Near
-    ensures { λ r. ⌜ ((x : ℕ) → Around a x → Around r x) × (At r up) × (r .gap ≤ 4294967298) ⌝ }
-{
-    if up < a.up {
-        return unknown();
-    }
-    let s = up - a.up;
-    if 63 < s {
-        return unknown();
-    }
-    if fits(a) {
+    if fit(a, b) {
         return Near {
-            low: a.low >> s,
-            gap: (a.gap >> s) + 2,
-            up,
+            low: head(a.low, b.low),
+            gap: a.gap + b.gap + 4,
+            up: a.up + b.up - 4032,
         };
     }
-    unknown()
+    Near {
+        low: 0,
+        gap: 0,
+        up: 0,
+    }
 }
 
-// The larger of two powers.
-fn larger(p: u64, q: u64) -> u64 {
-    if p < q { q } else { p }
+// How far q is above p; 0 where it is not.
+fn above(p: u64, q: u64) -> u64
+    ensures { λ r. ⌜ r ≡ q - p ⌝ }
+{
+    if p < q { q - p } else { 0 }
+}
+
+// A number without its last s digits.
+fn shifted(x: u64, s: u64) -> u64
+    ensures { λ r. ⌜ r ≡ x / 2 ^ s ⌝ }
+{
+    if s < 64 { x >> s } else { 0 }
+}
+
+// Both at one more than the larger power, so that they can be added; nothing known where one does not fit.
+fn levelled(a: Near, b: Near) -> Pair
+    ensures { λ r. ⌜ Levelled a b r ⌝ }
+{
+    if fit(a, b) {
+        let s = above(a.up, b.up) + 1;
+        let t = above(b.up, a.up) + 1;
+        return Pair {
+            a: shifted(a.low, s),
+            g: shifted(a.gap, s) + 2,
+            b: shifted(b.low, t),
+            h: shifted(b.gap, t) + 2,
+            up: a.up + s,
+        };
+    }
+    Pair {
+        a: 0,
+        g: 0,
+        b: 0,
+        h: 0,
+        up: 0,
+    }
 }
 
 // Bounds of a sum.
 pub fn plus(a: Near, b: Near) -> Near
     ensures { λ r. ⌜ ((x y : ℕ) → Around a x → Around b y → Around r (x + y)) ⌝ }
 {
-    let up = larger(a.up, b.up);
-    let c = level(a, up);
-    let d = level(b, up);
-    if c.low < 1 {
-        return unknown();
-    }
-    if d.low < 1 {
-        return unknown();
-    }
-    if 8192 < up {
-        return unknown();
-    }
+    let p = levelled(a, b);
     Near {
-        low: c.low / 2 + d.low / 2,
-        gap: c.gap / 2 + d.gap / 2 + 2,
-        up: up + 1,
+        low: p.a + p.b,
+        gap: p.g + p.h,
+        up: p.up,
     }
 }
 
@@ -135,23 +146,11 @@ pub fn plus(a: Near, b: Near) -> Near
 pub fn minus(a: Near, b: Near) -> Near
     ensures { λ r. ⌜ ((x y : ℕ) → Around a x → Around b y → Around r (x - y)) ⌝ }
 {
-    let up = larger(a.up, b.up);
-    let c = level(a, up);
-    let d = level(b, up);
-    if d.low < 1 {
-        return unknown();
-    }
-    if c.low < d.low {
-        return unknown();
-    }
-    let m = c.low - d.low;
-    if m < d.gap {
-        return unknown();
-    }
+    let p = levelled(a, b);
     Near {
-        low: m - d.gap,
-        gap: c.gap + d.gap,
-        up,
+        low: above(p.b + p.h, p.a),
+        gap: p.g + p.h,
+        up: p.up,
     }
 }
 
@@ -159,14 +158,6 @@ pub fn minus(a: Near, b: Near) -> Near
 pub fn below(a: Near, b: Near) -> bool
     ensures { λ r. ⌜ (r ≡ true → (x y : ℕ) → Around a x → Around b y → x < y) ⌝ }
 {
-    let up = larger(a.up, b.up);
-    let c = level(a, up);
-    let d = level(b, up);
-    if c.low < 1 {
-        return false;
-    }
-    if d.low < c.low {
-        return false;
-    }
-    c.gap < d.low - c.low
+    let d = minus(b, a);
+    0 < d.low
 }

@@ -8,7 +8,7 @@ use borrow.Author.Tests.{leb-false}
 use lib.Dec.{leb}
 use Rattle.algebra.proofs.Ring.{ring, quoted}
 use Rattle.wide.specs.declared.Order.the-variants.{Less, Greater}
-use Rattle.wide.proofs.Comparison.{order-less, order-greater}
+use Rattle.order.proofs.Comparison.{order-less, order-greater}
 use Rattle.factors.specs.Product.{prod}
 use Rattle.cylinder.specs.declared.Shell.{Shell}
 use Rattle.cylinder.specs.Cut.{rootOf}

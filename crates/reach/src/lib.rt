@@ -152,7 +152,7 @@ fn shear_reaches(s: Shell, p: u64, q: u64, t: Terms) -> bool
     if squares_below(b, 200 * s.radius, a, s.wall) {
         return false;
     }
-    wide::is_at_most(sheared::shear_short_order(s, p, q))
+    order::is_at_most(sheared::shear_short_order(s, p, q))
 }
 
 // Whether S reaches p/q for axial stress, long: c p² - d q² is at most e p² √(w/(200 r)).
@@ -169,7 +169,7 @@ fn bent_reaches(s: Shell, p: u64, q: u64, t: Terms) -> bool
     if squares_below(b, s.wall, a, 200 * s.radius) {
         return false;
     }
-    wide::is_at_most(bent::axial_bent_order(s, p, q))
+    order::is_at_most(bent::axial_bent_order(s, p, q))
 }
 
 // The same number times 2^32, for a guess.

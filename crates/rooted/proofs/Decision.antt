@@ -8,7 +8,7 @@ use lib.Dec.{leb}
 use borrow.Author.Tests.{lt-leb, le-leb}
 use Rattle.wide.specs.declared.Order.{Order}
 use Rattle.wide.specs.Order.{orderOf, atMost}
-use Rattle.wide.proofs.Comparison.{at-most-says, order-less, order-greater, order-equal}
+use Rattle.order.proofs.Comparison.{at-most-says, order-less, order-greater, order-equal}
 use Rattle.cylinder.specs.Cut.{Cut}
 use Rattle.rooted.specs.Decision.{Decides, atLeast}
 

@@ -1,9 +1,7 @@
 -- `near::fits` meets its contract. Assumes nothing.
 use mathlib.Core.Path.{sym}
 use mathlib.Core.Bool.{true≢false}
-use native.Mathlib.Omega.{arith}
 use borrow.Author.Needs.{needs}
-use borrow.Author.Tests.{leb-true}
 use Rattle.near.proofs.fits.Statement.{statement}
 use Rattle.near.proofs.fits.Tie as tie
 
@@ -14,7 +12,10 @@ returns-2 : tie.Need-returns-2
 returns-2 c says = absurd (true≢false (sym says))
 
 returns-3 : tie.Need-returns-3
-returns-3 c = search needs
+returns-3 c says = absurd (true≢false (sym says))
+
+returns-4 : tie.Need-returns-4
+returns-4 c = search needs
 
 pub fits-spec : {M : Type 1} → statement M
-fits-spec = tie.close (tie.spec returns returns-2 returns-3)
+fits-spec = tie.close (tie.spec returns returns-2 returns-3 returns-4)
