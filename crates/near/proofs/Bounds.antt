@@ -2,7 +2,7 @@
 use mathlib.Core.Path.{_≡_, refl, sym, ap, ap₂, subst, _∙_}
 use Prim.Native.Nat.{ℕ, _+_, _-_, _*_, _/_, _≤_, _<_}
 use native.Mathlib.Decide.{decLt}
-use native.Mathlib.Nat.{mul-pos, le-trans, le-of-eq, mul-assoc, mul-comm, mul-sub, mul-le-mul, mul-le-mul-right, le-of-mul-le-mul-right, div-mul-le-self, div-lt-iff-lt-mul}
+use native.Mathlib.Nat.{mul-pos, le-trans, le-of-eq, lt-of-lt-of-le, mul-assoc, mul-comm, mul-sub, mul-le-mul, mul-le-mul-right, le-of-mul-le-mul-right, div-mul-le-self, div-lt-iff-lt-mul}
 use native.Mathlib.Omega.{arith}
 use lib.Pow.{pow-add, pow-pos}
 use Rattle.near.specs.declared.Near.{Near}
@@ -63,6 +63,13 @@ times-high l m h x y P Q R T S pos e a b c =
 -- upper bounds of a product: g and k are the gaps
 pub gap-times : (l m h g k T : ℕ) → l ≤ T → m ≤ T → g * k ≤ T → l * m ≤ (h + 3) * T → (l + g) * (m + k) ≤ (h + (g + k + 4)) * T
 gap-times l m h g k T a b c d = omega (arith, d, c, mul-le-mul-right g b, mul-le-mul-right k a)
+
+-- a product above 0 has no factor 0
+pub factor-pos : (l m h T : ℕ) → 0 < h → 0 < T → h * T ≤ l * m → (0 < l) × (0 < m)
+factor-pos l m h T p q e = (pos l m (lt-of-lt-of-le (mul-pos p q) e), pos m l (lt-of-lt-of-le (mul-pos p q) (le-trans e (le-of-eq (mul-comm l m)))))
+  where
+    pos : (a b : ℕ) → 0 < a * b → 0 < a
+    pos a b h = elim (decLt 0 a) [ yes k ↦ k | no k ↦ let z : a ≡ 0 = omega arith in absurd (omega (arith, rw z at h)) ]
 
 -- bounds at a larger power: M is the step
 pub level-low : (l x P M S : ℕ) → 0 < M → l * P ≤ x * S → l / M * (M * P) ≤ x * S

@@ -23,9 +23,8 @@ Within low gap up x = (low * power up ≤ x * scale) × (x * scale ≤ (low + ga
 abbrev pub Around : Near → ℕ → Type 0
 Around a x = 0 < a .low → Within (a .low) (a .gap) (a .up) x
 
--- something is known, and the gap and the power are small
+-- the gap and the power are small
 pub record Fits (a : Near) : Type 0 where
-  pub known : 0 < a .low
   pub gap-most : a .gap ≤ 4294967296
   pub up-least : 2016 ≤ a .up
   pub up-most : a .up ≤ 8192

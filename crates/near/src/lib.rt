@@ -37,13 +37,10 @@ pub fn of(x: u64) -> Near
     }
 }
 
-// Whether something is known, with a gap and a power that are small enough to go on with.
+// Whether the gap and the power are small enough to go on with.
 fn fits(a: Near) -> bool
     ensures { λ r. ⌜ (r ≡ true → Fits a) ⌝ }
 {
-    if a.low < 1 {
-        return false;
-    }
     if HALF < a.gap {
         return false;
     }
@@ -51,16 +48,6 @@ fn fits(a: Near) -> bool
         return false;
     }
     a.up <= 8192
-}
-
-// Whether that is so of both.
-fn fit(a: Near, b: Near) -> bool
-    ensures { λ r. ⌜ (r ≡ true → (Fits a) × (Fits b)) ⌝ }
-{
-    if fits(a) {
-        return fits(b);
-    }
-    false
 }
 
 // The upper half of a product: up to two units of it may be missing.
@@ -78,18 +65,36 @@ fn head(a: u64, b: u64) -> u64
 pub fn times(a: Near, b: Near) -> Near
     ensures { λ r. ⌜ ((x y : ℕ) → Around a x → Around b y → Around r (x * y)) ⌝ }
 {
-    if fit(a, b) {
-        return Near {
-            low: head(a.low, b.low),
-            gap: a.gap + b.gap + 4,
-            up: a.up + b.up - 4032,
-        };
+    if fits(a) {
+        if fits(b) {
+            return Near {
+                low: head(a.low, b.low),
+                gap: a.gap + b.gap + 4,
+                up: a.up + b.up - 4032,
+            };
+        }
     }
     Near {
         low: 0,
         gap: 0,
         up: 0,
     }
+}
+
+// Whether something is known of both, and both fit.
+fn fit(a: Near, b: Near) -> bool
+    ensures { λ r. ⌜ (r ≡ true → (0 < a .low) × (0 < b .low) × (Fits a) × (Fits b)) ⌝ }
+{
+    if a.low < 1 {
+        return false;
+    }
+    if b.low < 1 {
+        return false;
+    }
+    if fits(a) {
+        return fits(b);
+    }
+    false
 }
 
 // How far q is above p; 0 where it is not.

@@ -12,10 +12,7 @@ returns-2 : tie.Need-returns-2
 returns-2 c says = absurd (true≢false (sym says))
 
 returns-3 : tie.Need-returns-3
-returns-3 c says = absurd (true≢false (sym says))
-
-returns-4 : tie.Need-returns-4
-returns-4 c = search needs
+returns-3 c = search needs
 
 pub fits-spec : {M : Type 1} → statement M
-fits-spec = tie.close (tie.spec returns returns-2 returns-3 returns-4)
+fits-spec = tie.close (tie.spec returns returns-2 returns-3)

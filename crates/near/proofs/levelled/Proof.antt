@@ -41,7 +41,7 @@ above-requires c κs = search needs
 add-s : tie.Need-add-s
 add-s c =
     let f = c .before .before .fit .ensures (c .before .if1 .taken) in
-    omega (arith, c .above .ensures, f .1 .up-most)
+    omega (arith, c .above .ensures, f .3 .up-most)
 
 above-requires-2 : tie.Need-above-requires-2
 above-requires-2 c κs = search needs
@@ -50,7 +50,7 @@ add-t : tie.Need-add-t
 add-t c =
     let k = c .before .before in
     let f = k .before .fit .ensures (k .if1 .taken) in
-    omega (arith, c .above2 .ensures, f .0 .up-most)
+    omega (arith, c .above2 .ensures, f .2 .up-most)
 
 shifted-requires : tie.Need-shifted-requires
 shifted-requires c κs = search needs
@@ -62,7 +62,7 @@ add-t8 : tie.Need-add-t8
 add-t8 c =
     let k = c .before .before .before .before in
     let f = k .before .fit .ensures (k .if1 .taken) in
-    record { fits = lt-of-le-of-lt (gap-half _ _ _ (c .shifted2 .ensures) (f .0 .gap-most)) (lit< tt) }
+    record { fits = lt-of-le-of-lt (gap-half _ _ _ (c .shifted2 .ensures) (f .2 .gap-most)) (lit< tt) }
 
 shifted-requires-3 : tie.Need-shifted-requires-3
 shifted-requires-3 c κs = search needs
@@ -74,13 +74,13 @@ add-t11 : tie.Need-add-t11
 add-t11 c =
     let k = c .before .before .before .before .before .before in
     let f = k .before .fit .ensures (k .if1 .taken) in
-    record { fits = lt-of-le-of-lt (gap-half _ _ _ (c .shifted4 .ensures) (f .1 .gap-most)) (lit< tt) }
+    record { fits = lt-of-le-of-lt (gap-half _ _ _ (c .shifted4 .ensures) (f .3 .gap-most)) (lit< tt) }
 
 add-t12 : tie.Need-add-t12
 add-t12 c =
     let k = c .before .before .before .before .before .before .before in
     let f = k .before .fit .ensures (k .if1 .taken) in
-    omega (arith, c .before .before .before .before .before .before .above .ensures, f .0 .up-most, f .1 .up-most)
+    omega (arith, c .before .before .before .before .before .before .above .ensures, f .2 .up-most, f .3 .up-most)
 
 returns : tie.Need-returns
 returns c =
@@ -97,11 +97,11 @@ returns c =
     let bg = c .before .shifted4 .ensures in
     record {
       a-most = half _ _ 9223372036854775808 _ al (omega arith);
-      g-most = gap-half _ _ _ ag (f .0 .gap-most);
+      g-most = gap-half _ _ _ ag (f .2 .gap-most);
       b-most = half _ _ 9223372036854775808 _ bl (omega arith);
-      h-most = gap-half _ _ _ bg (f .1 .gap-most);
-      first = λ _ x h. raised a (s .result + 1) _ _ _ x (add-comm (a .up) _) al ag (f .0 .known) h;
-      second = λ _ y h. raised b (t .result + 1) _ _ _ y (meet (a .up) (b .up) _ _ (s .ensures) (t .ensures)) bl bg (f .1 .known) h;
+      h-most = gap-half _ _ _ bg (f .3 .gap-most);
+      first = λ _ x h. raised a (s .result + 1) _ _ _ x (add-comm (a .up) _) al ag (f .0) h;
+      second = λ _ y h. raised b (t .result + 1) _ _ _ y (meet (a .up) (b .up) _ _ (s .ensures) (t .ensures)) bl bg (f .1) h;
     }
 
 returns-2 : tie.Need-returns-2
