@@ -25,7 +25,7 @@ struct Pair {
     up: u64,
 }
 
-// Bounds of a u64.
+// Bounds of a u64. 0 has 64 leading zeros, and is not shifted: nothing is known of it.
 pub fn of(x: u64) -> Near
     ensures { λ r. ⌜ Around r x ⌝ }
 {
