@@ -1,1 +1,2 @@
 pub mod Around
+pub mod Levelled

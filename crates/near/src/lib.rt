@@ -4,7 +4,8 @@
 ghost use mathlib.Core.Path.{_≡_};
 ghost use mathlib.Core.Bool.{true};
 ghost use Prim.Native.Nat.{ℕ, _+_, _-_, _*_, _/_, _^_, _<_, _≤_};
-ghost use Rattle.near.specs.Around.{top, Around, Fits, Levelled};
+ghost use Rattle.near.specs.Around.{top, Around};
+ghost use Rattle.near.specs.Levelled.{Fits, Levelled};
 
 // Half of a bound's bits: 2^32.
 const HALF: u64 = 4294967296;

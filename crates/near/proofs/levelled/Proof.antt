@@ -7,7 +7,7 @@ use borrow.Author.Needs.{needs}
 use lib.Dec.{lit<}
 use lib.Pow.{pow-add, pow-pos, shr-le, shr-shr}
 use Rattle.near.specs.declared.Near.{Near}
-use Rattle.near.specs.Around.{power, Around, Within}
+use Rattle.near.specs.Around.{power, Around, Enclosed}
 use Rattle.near.proofs.Bounds.{level-low, level-high}
 use Rattle.near.proofs.levelled.Statement.{statement}
 use Rattle.near.proofs.levelled.Tie as tie
@@ -18,7 +18,7 @@ unfolding power
 step k q = pow-add 2 k q
 
 -- bounds at a larger power
-raised : (a : Near) (k up l g x : ℕ) → up ≡ k + a .up → l ≡ a .low / 2 ^ k → g ≡ a .gap / 2 ^ k → 0 < a .low → Around a x → Within l (g + 2) up x
+raised : (a : Near) (k up l g x : ℕ) → up ≡ k + a .up → l ≡ a .low / 2 ^ k → g ≡ a .gap / 2 ^ k → 0 < a .low → Around a x → Enclosed l (g + 2) up x
 raised a k up l g x e el eg known h = rw (e, el, eg, step) (level-low _ x _ _ _ (pow-pos k) (h known .0), level-high _ _ x _ _ _ (pow-pos k) (h known .1))
 
 -- at least one digit is left out
