@@ -128,13 +128,11 @@ fn bent_terms(s: Shell, q: u64) -> Terms
     }
 }
 
-// Whether a² x is seen to be below b² y.
-fn squares_below(a: Near, x: u64, b: Near, y: u64) -> bool
-    ensures { λ r. ⌜ (r ≡ true → (n m : ℕ) → Around a n → Around b m → n ^ 2 * x < m ^ 2 * y) ⌝ }
+// Bounds of a² x.
+fn squared(a: Near, x: u64) -> Near
+    ensures { λ r. ⌜ ((n : ℕ) → Around a n → Around r (n ^ 2 * x)) ⌝ }
 {
-    let l = near::times(near::times(a, a), near::of(x));
-    let r = near::times(near::times(b, b), near::of(y));
-    near::below(l, r)
+    near::times(near::times(a, a), near::of(x))
 }
 
 // Whether S reaches p/q for shear, short: e p⁴ √(w/(200 r)) is at most d q⁴ - c p⁴.
@@ -146,10 +144,12 @@ fn shear_reaches(s: Shell, p: u64, q: u64, t: Terms) -> bool
     let m = near::times(x, x);
     let a = near::times(t.e, m);
     let b = near::minus(t.d, near::times(t.c, m));
-    if squares_below(a, s.wall, b, 200 * s.radius) {
+    let l = squared(a, s.wall);
+    let r = squared(b, 200 * s.radius);
+    if near::below(l, r) {
         return true;
     }
-    if squares_below(b, 200 * s.radius, a, s.wall) {
+    if near::below(r, l) {
         return false;
     }
     order::is_at_most(sheared::shear_short_order(s, p, q))
@@ -163,10 +163,12 @@ fn bent_reaches(s: Shell, p: u64, q: u64, t: Terms) -> bool
     let m = near::of(p * p);
     let a = near::minus(near::times(t.c, m), t.d);
     let b = near::times(t.e, m);
-    if squares_below(a, 200 * s.radius, b, s.wall) {
+    let l = squared(a, 200 * s.radius);
+    let r = squared(b, s.wall);
+    if near::below(l, r) {
         return true;
     }
-    if squares_below(b, s.wall, a, 200 * s.radius) {
+    if near::below(r, l) {
         return false;
     }
     order::is_at_most(bent::axial_bent_order(s, p, q))

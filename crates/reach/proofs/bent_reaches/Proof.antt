@@ -24,16 +24,24 @@ minus-requires c κs = search needs
 times-requires-2 : tie.Need-times-requires-2
 times-requires-2 c κs = search needs
 
-mul-squares-below : tie.Need-mul-squares-below
-mul-squares-below c = search needs
+mul-squared : tie.Need-mul-squared
+mul-squared c = search needs
 
-squares-below-requires : tie.Need-squares-below-requires
-squares-below-requires c κs = search needs
+squared-requires : tie.Need-squared-requires
+squared-requires c κs = search needs
+
+squared-requires-2 : tie.Need-squared-requires-2
+squared-requires-2 c κs = search needs
+
+below-requires : tie.Need-below-requires
+below-requires c κs = search needs
 
 returns : tie.Need-returns
 returns c =
     let y = c .before in
-    let t = y .before .before in
+    let r = y .before in
+    let l = r .before in
+    let t = l .before .before in
     let u = t .before in
     let v = u .before in
     let o = v .before in
@@ -41,19 +49,17 @@ returns c =
     let k = b .pre .2 in
     let d = u .minus .ensures _ _ (v .times .ensures _ _ (k .for-c) (o .of .ensures)) (k .for-d) in
     let e = t .times2 .ensures _ _ (k .for-e) (o .of .ensures) in
-    bent-reached (b .args .s) (b .args .p) (b .args .q) (y .squares-below .ensures (c .if1 .taken) _ _ d e)
+    bent-reached (b .args .s) (b .args .p) (b .args .q) (y .below .ensures (c .if1 .taken) _ _ (l .squared .ensures _ d) (r .squared2 .ensures _ e))
 
-mul-squares-below-2 : tie.Need-mul-squares-below-2
-mul-squares-below-2 c = search needs
-
-squares-below-requires-2 : tie.Need-squares-below-requires-2
-squares-below-requires-2 c κs = search needs
+below-requires-2 : tie.Need-below-requires-2
+below-requires-2 c κs = search needs
 
 returns-2 : tie.Need-returns-2
 returns-2 c =
     let z = c .before in
-    let y = z .before .before .before in
-    let t = y .before .before in
+    let r = z .before .before .before in
+    let l = r .before in
+    let t = l .before .before in
     let u = t .before in
     let v = u .before in
     let o = v .before in
@@ -61,7 +67,7 @@ returns-2 c =
     let k = b .pre .2 in
     let d = u .minus .ensures _ _ (v .times .ensures _ _ (k .for-c) (o .of .ensures)) (k .for-d) in
     let e = t .times2 .ensures _ _ (k .for-e) (o .of .ensures) in
-    bent-missed (b .args .s) (b .args .p) (b .args .q) (z .squares-below2 .ensures (c .if2 .taken) _ _ e d)
+    bent-missed (b .args .s) (b .args .p) (b .args .q) (z .below2 .ensures (c .if2 .taken) _ _ (r .squared2 .ensures _ e) (l .squared .ensures _ d))
 
 axial-bent-order-requires : tie.Need-axial-bent-order-requires
 axial-bent-order-requires c κs = search needs
@@ -81,11 +87,12 @@ bent-reaches-spec =
     times-requires
     minus-requires
     times-requires-2
-    mul-squares-below
-    squares-below-requires
+    mul-squared
+    squared-requires
+    squared-requires-2
+    below-requires
     returns
-    mul-squares-below-2
-    squares-below-requires-2
+    below-requires-2
     returns-2
     axial-bent-order-requires
     is-at-most-requires

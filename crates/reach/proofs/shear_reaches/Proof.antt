@@ -27,16 +27,24 @@ times-requires-3 c κs = search needs
 minus-requires : tie.Need-minus-requires
 minus-requires c κs = search needs
 
-mul-squares-below : tie.Need-mul-squares-below
-mul-squares-below c = search needs
+squared-requires : tie.Need-squared-requires
+squared-requires c κs = search needs
 
-squares-below-requires : tie.Need-squares-below-requires
-squares-below-requires c κs = search needs
+mul-squared : tie.Need-mul-squared
+mul-squared c = search needs
+
+squared-requires-2 : tie.Need-squared-requires-2
+squared-requires-2 c κs = search needs
+
+below-requires : tie.Need-below-requires
+below-requires c κs = search needs
 
 returns : tie.Need-returns
 returns c =
     let y = c .before in
-    let t = y .before .before in
+    let r = y .before in
+    let l = r .before .before in
+    let t = l .before in
     let u = t .before in
     let v = u .before in
     let m = v .before in
@@ -46,19 +54,17 @@ returns c =
     let n = m .times .ensures _ _ o o in
     let d = t .minus .ensures _ _ (k .for-d) (u .times3 .ensures _ _ (k .for-c) n) in
     let e = v .times2 .ensures _ _ (k .for-e) n in
-    shear-reached (b .args .s) (b .args .p) (b .args .q) (y .squares-below .ensures (c .if1 .taken) _ _ e d)
+    shear-reached (b .args .s) (b .args .p) (b .args .q) (y .below .ensures (c .if1 .taken) _ _ (l .squared .ensures _ e) (r .squared2 .ensures _ d))
 
-mul-squares-below-2 : tie.Need-mul-squares-below-2
-mul-squares-below-2 c = search needs
-
-squares-below-requires-2 : tie.Need-squares-below-requires-2
-squares-below-requires-2 c κs = search needs
+below-requires-2 : tie.Need-below-requires-2
+below-requires-2 c κs = search needs
 
 returns-2 : tie.Need-returns-2
 returns-2 c =
     let z = c .before in
-    let y = z .before .before .before in
-    let t = y .before .before in
+    let r = z .before .before .before in
+    let l = r .before .before in
+    let t = l .before in
     let u = t .before in
     let v = u .before in
     let m = v .before in
@@ -68,7 +74,7 @@ returns-2 c =
     let n = m .times .ensures _ _ o o in
     let d = t .minus .ensures _ _ (k .for-d) (u .times3 .ensures _ _ (k .for-c) n) in
     let e = v .times2 .ensures _ _ (k .for-e) n in
-    shear-missed (b .args .s) (b .args .p) (b .args .q) (z .squares-below2 .ensures (c .if2 .taken) _ _ d e)
+    shear-missed (b .args .s) (b .args .p) (b .args .q) (z .below2 .ensures (c .if2 .taken) _ _ (r .squared2 .ensures _ d) (l .squared .ensures _ e))
 
 shear-short-order-requires : tie.Need-shear-short-order-requires
 shear-short-order-requires c κs = search needs
@@ -89,11 +95,12 @@ shear-reaches-spec =
     times-requires-2
     times-requires-3
     minus-requires
-    mul-squares-below
-    squares-below-requires
+    squared-requires
+    mul-squared
+    squared-requires-2
+    below-requires
     returns
-    mul-squares-below-2
-    squares-below-requires-2
+    below-requires-2
     returns-2
     shear-short-order-requires
     is-at-most-requires
