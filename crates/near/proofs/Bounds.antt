@@ -102,9 +102,9 @@ minus-low l n x y P S h j = rw (sub-times l n P, sub-times x y S) (omega arith)
 pub minus-high : (l m g k x y P S : ℕ) → m + k ≤ l → x * S ≤ (l + g) * P → m * P ≤ y * S → (x - y) * S ≤ (l - (m + k) + (g + k)) * P
 minus-high l m g k x y P S p h j = let e : l - (m + k) + (g + k) ≡ l + g - m = omega arith in rw (e, sub-times (l + g) m P, sub-times x y S) (omega arith)
 
--- where a difference is above 0
-pub apart : (l x y P S : ℕ) → 0 < l → 0 < P → l * P ≤ (y - x) * S → x < y
-apart l x y P S pos p h = elim (decLt x y) [ yes k ↦ k | no k ↦ let z : y - x ≡ 0 = omega arith in absurd (omega (arith, mul-pos pos p, rw z at h)) ]
+-- an upper bound m below a lower bound n
+pub apart : (m n x y P S : ℕ) → m < n → 0 < P → x * S ≤ m * P → n * P ≤ y * S → x < y
+apart m n x y P S lt pos h k = elim (decLt x y) [ yes l ↦ l | no l ↦ absurd (omega (arith, mul-le-mul-right {n = n} P lt, mul-le-mul-right {m = y} {n = x} S (omega arith))) ]
 
 -- bounds of a number in other words
 pub around-as : (a : Near) {n m : ℕ} → n ≡ m → Around a n → Around a m

@@ -1,6 +1,8 @@
 -- What bounds say of a number.
 use Prim.Native.Nat.{ℕ, _+_, _*_, _^_, _≤_, _<_}
 use Rattle.near.specs.declared.Near.{Near}
+use Rattle.near.specs.declared.Side.{Side}
+use Rattle.near.specs.declared.Side.the-variants.{Below, Above, Unseen}
 
 -- one more than the largest bound
 abbrev pub top : ℕ
@@ -21,3 +23,9 @@ Enclosed low gap up x = (low * power up ≤ x * scale) × (x * scale ≤ (low + 
 -- x lies between the bounds, if these say anything
 abbrev pub Around : Near → ℕ → Type 0
 Around a x = 0 < a .low → Enclosed (a .low) (a .gap) (a .up) x
+
+-- x lies on that side of y, if anything is seen
+abbrev pub Lies : Side → ℕ → ℕ → Type 0
+Lies Below x y = x < y
+Lies Above x y = y < x
+Lies Unseen x y = Unit {0}

@@ -4,7 +4,7 @@
 ghost use mathlib.Core.Path.{_≡_};
 ghost use mathlib.Core.Bool.{true};
 ghost use Prim.Native.Nat.{ℕ, _+_, _-_, _*_, _/_, _^_, _<_, _≤_};
-ghost use Rattle.near.specs.Around.{top, Around};
+ghost use Rattle.near.specs.Around.{top, Around, Lies};
 ghost use Rattle.near.specs.Levelled.{Fits, Levelled};
 
 // Half of a bound's bits: 2^32.
@@ -160,10 +160,23 @@ pub fn minus(a: Near, b: Near) -> Near
     }
 }
 
-// Whether one number is seen to be below another.
-pub fn below(a: Near, b: Near) -> bool
-    ensures { λ r. ⌜ (r ≡ true → (x y : ℕ) → Around a x → Around b y → x < y) ⌝ }
+// What bounds show of two numbers: the first is below the second, or above it, or they do not tell.
+pub enum Side {
+    Below,
+    Above,
+    Unseen,
+}
+
+// On which side of another a number is seen to lie.
+pub fn parted(a: Near, b: Near) -> Side
+    ensures { λ r. ⌜ ((x y : ℕ) → Around a x → Around b y → Lies r x y) ⌝ }
 {
-    let d = minus(b, a);
-    0 < d.low
+    let p = levelled(a, b);
+    if p.a + p.g < p.b {
+        return Side::Below;
+    }
+    if p.b + p.h < p.a {
+        return Side::Above;
+    }
+    Side::Unseen
 }

@@ -15,6 +15,7 @@ use cylinder::Shell;
 use cylinder::Stress;
 use guess::Degree;
 use near::Near;
+use near::Side;
 
 // Axial stress, short: the largest k up to the cap such that S reaches k/q.
 fn axial_short_highest(s: Shell, q: u64, cap: u64) -> u64
@@ -146,13 +147,11 @@ fn shear_reaches(s: Shell, p: u64, q: u64, t: Terms) -> bool
     let b = near::minus(t.d, near::times(t.c, m));
     let l = squared(a, s.wall);
     let r = squared(b, 200 * s.radius);
-    if near::below(l, r) {
-        return true;
+    match near::parted(l, r) {
+        Side::Below => true,
+        Side::Above => false,
+        Side::Unseen => order::is_at_most(sheared::shear_short_order(s, p, q)),
     }
-    if near::below(r, l) {
-        return false;
-    }
-    order::is_at_most(sheared::shear_short_order(s, p, q))
 }
 
 // Whether S reaches p/q for axial stress, long: c p² - d q² is at most e p² √(w/(200 r)).
@@ -165,13 +164,11 @@ fn bent_reaches(s: Shell, p: u64, q: u64, t: Terms) -> bool
     let b = near::times(t.e, m);
     let l = squared(a, 200 * s.radius);
     let r = squared(b, s.wall);
-    if near::below(l, r) {
-        return true;
+    match near::parted(l, r) {
+        Side::Below => true,
+        Side::Above => false,
+        Side::Unseen => order::is_at_most(bent::axial_bent_order(s, p, q)),
     }
-    if near::below(r, l) {
-        return false;
-    }
-    order::is_at_most(bent::axial_bent_order(s, p, q))
 }
 
 // The same number times 2^32, for a guess.

@@ -1,13 +1,29 @@
 -- `reach::bent_reaches` meets its contract. Assumes nothing.
 use mathlib.Core.Path.{_∙_}
-use Prim.Native.Nat.{ℕ, _*_, _<_}
+use Prim.Native.Nat.{_-_, _*_, _^_}
 use native.Mathlib.Omega.{arith}
 use borrow.Author.Needs.{needs}
 use Rattle.wide.specs.Value.{base}
 use Rattle.wide.proofs.Carry.{square-fits}
-use Rattle.reach.proofs.Seen.{bent-reached, bent-missed}
+use Rattle.near.specs.Around.{Lies}
+use Rattle.reach.proofs.Seen.{bentC, bentD, bentE, bent-reached, bent-missed}
 use Rattle.reach.proofs.bent_reaches.Statement.{statement}
 use Rattle.reach.proofs.bent_reaches.Tie as tie
+
+-- what the bounds show of the two sides
+seen : (c : tie.After-parted) → let b = c .before .before .before .before .before .before .before .before in
+    Lies (c .parted .result) ((bentC (b .args .s) (b .args .p) (b .args .q) - bentD (b .args .s) (b .args .p) (b .args .q)) ^ 2 * (200 * b .args .s .radius)) (bentE (b .args .s) (b .args .p) (b .args .q) ^ 2 * b .args .s .wall)
+seen c =
+    let r = c .before in
+    let l = r .before in
+    let t = l .before .before in
+    let u = t .before in
+    let v = u .before in
+    let o = v .before in
+    let k = o .before .pre .2 in
+    let d = u .minus .ensures _ _ (v .times .ensures _ _ (k .for-c) (o .of .ensures)) (k .for-d) in
+    let e = t .times2 .ensures _ _ (k .for-e) (o .of .ensures) in
+    c .parted .ensures _ _ (l .squared .ensures _ d) (r .squared2 .ensures _ e)
 
 mul-of : tie.Need-mul-of
 mul-of c = omega (arith, square-fits _ (c .pre .1))
@@ -33,47 +49,29 @@ squared-requires c κs = search needs
 squared-requires-2 : tie.Need-squared-requires-2
 squared-requires-2 c κs = search needs
 
-below-requires : tie.Need-below-requires
-below-requires c κs = search needs
+parted-requires : tie.Need-parted-requires
+parted-requires c κs = search needs
 
-returns : tie.Need-returns
-returns c =
-    let y = c .before in
-    let r = y .before in
-    let l = r .before in
-    let t = l .before .before in
-    let u = t .before in
-    let v = u .before in
-    let o = v .before in
-    let b = o .before in
-    let k = b .pre .2 in
-    let d = u .minus .ensures _ _ (v .times .ensures _ _ (k .for-c) (o .of .ensures)) (k .for-d) in
-    let e = t .times2 .ensures _ _ (k .for-e) (o .of .ensures) in
-    bent-reached (b .args .s) (b .args .p) (b .args .q) (y .below .ensures (c .if1 .taken) _ _ (l .squared .ensures _ d) (r .squared2 .ensures _ e))
+enum-told : tie.Need-enum-told
+enum-told c = search needs
 
-below-requires-2 : tie.Need-below-requires-2
-below-requires-2 c κs = search needs
+enum-told-2 : tie.Need-enum-told-2
+enum-told-2 c = search needs
 
-returns-2 : tie.Need-returns-2
-returns-2 c =
-    let z = c .before in
-    let r = z .before .before .before in
-    let l = r .before in
-    let t = l .before .before in
-    let u = t .before in
-    let v = u .before in
-    let o = v .before in
-    let b = o .before in
-    let k = b .pre .2 in
-    let d = u .minus .ensures _ _ (v .times .ensures _ _ (k .for-c) (o .of .ensures)) (k .for-d) in
-    let e = t .times2 .ensures _ _ (k .for-e) (o .of .ensures) in
-    bent-missed (b .args .s) (b .args .p) (b .args .q) (z .below2 .ensures (c .if2 .taken) _ _ (r .squared2 .ensures _ e) (l .squared .ensures _ d))
+enum-told-3 : tie.Need-enum-told-3
+enum-told-3 c = search needs
 
 axial-bent-order-requires : tie.Need-axial-bent-order-requires
 axial-bent-order-requires c κs = search needs
 
 is-at-most-requires : tie.Need-is-at-most-requires
 is-at-most-requires c κs = search needs
+
+returns : tie.Need-returns
+returns c = let a = c .before .before .before .before .before .before .before .before .before .before .args in bent-reached (a .s) (a .p) (a .q) (rw (c .enum-told .given .1) at (seen (c .before .before)))
+
+returns-2 : tie.Need-returns-2
+returns-2 c = let a = c .before .before .before .before .before .before .before .before .before .before .args in bent-missed (a .s) (a .p) (a .q) (rw (c .enum-told2 .given .1) at (seen (c .before .before)))
 
 returns-3 : tie.Need-returns-3
 returns-3 c = c .is-at-most .ensures ∙ c .before .axial-bent-order .ensures .reaches
@@ -90,10 +88,12 @@ bent-reaches-spec =
     mul-squared
     squared-requires
     squared-requires-2
-    below-requires
-    returns
-    below-requires-2
-    returns-2
+    parted-requires
+    enum-told
+    enum-told-2
+    enum-told-3
     axial-bent-order-requires
     is-at-most-requires
+    returns
+    returns-2
     returns-3)
