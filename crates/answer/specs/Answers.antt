@@ -1,7 +1,7 @@
 -- Document 01, "The sum and what exact means": the verdict by L and U, and the number of an answer that the call from C returns.
 use Prim.Native.Nat.{ℕ, _+_, _*_, _≤_}
 use lib.Dec.{leb, ltb}
-use Rattle.cylinder.specs.Number.{pick}
+use Rattle.algebra.specs.Choice.{pick}
 use Rattle.answer.specs.declared.Answer.{Answer}
 use Rattle.answer.specs.declared.Answer.the-variants.{Refused, Holds, Fails, Open}
 

@@ -1,6 +1,6 @@
 // Axial stress, long, where Cx falls with the length: how the related slenderness S compares with a fraction p/q. The ideal
 // stress is a difference with a root, so the two sides are compared by their squares. Nothing is rounded.
-ghost use Rattle.cylinder.specs.Within.{Within};
+ghost use Rattle.cylinder.specs.InLimits.{InLimits};
 ghost use Rattle.cylinder.specs.WholeIdeal.{axialBent};
 ghost use Rattle.cylinder.specs.Cut.{rootOf};
 ghost use Rattle.rooted.specs.Decision.{Decides};
@@ -10,7 +10,7 @@ use wide::Order;
 
 // Axial stress, long, where Cx falls with the length: c - d q²/p² against e √(w/(200 r)).
 pub fn axial_bent_order(s: Shell, p: u64, q: u64) -> Order
-    requires { ⌜ Within s ⌝ }
+    requires { ⌜ InLimits s ⌝ }
     ensures { λ r. ⌜ Decides r (rootOf 2 (axialBent s)) p q ⌝ }
 {
     let h = lengths::eta(s.edges);

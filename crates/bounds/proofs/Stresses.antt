@@ -10,7 +10,7 @@ use Rattle.cylinder.specs.declared.Shell.{Shell}
 use Rattle.cylinder.specs.declared.Stress.{Stress}
 use Rattle.cylinder.specs.declared.Stress.the-variants.{Axial, Ring, Shear}
 use Rattle.cylinder.specs.Fraction.{Fraction, _//_}
-use Rattle.cylinder.specs.Number.{pick}
+use Rattle.algebra.specs.Choice.{pick}
 use Rattle.cylinder.specs.Cut.{Cut}
 use Rattle.cylinder.specs.WholeTerm.{Term, formula}
 use Rattle.cylinder.specs.WholeStress.{excess}

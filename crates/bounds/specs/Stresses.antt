@@ -8,9 +8,9 @@ use Rattle.cylinder.specs.declared.Shell.{Shell}
 use Rattle.cylinder.specs.declared.Stress.{Stress}
 use Rattle.cylinder.specs.declared.Stress.the-variants.{Axial, Ring, Shear}
 use Rattle.cylinder.specs.Fraction.{Fraction, _//_}
-use Rattle.cylinder.specs.Number.{pick}
+use Rattle.algebra.specs.Choice.{pick}
 use Rattle.cylinder.specs.Cut.{Cut}
-use Rattle.cylinder.specs.WholeIdeal.{axialS, ringS, shearS}
+use Rattle.cylinder.specs.WholeIdeal.{axialCut, ringCut, shearCut}
 use Rattle.cylinder.specs.WholeCurves as curves
 use Rattle.cylinder.specs.WholeTerm.{Term}
 use Rattle.cylinder.specs.WholeStress.{axialTerm, ringTerm, shearTerm}
@@ -46,9 +46,9 @@ abbrev pub fractionOf : Load → Fraction
 fractionOf l = l .num // l .den
 
 abbrev pub slendernessOf : Stress → Shell → Cut
-slendernessOf Axial s = axialS s
-slendernessOf Ring s = ringS s
-slendernessOf Shear s = shearS s
+slendernessOf Axial s = axialCut s
+slendernessOf Ring s = ringCut s
+slendernessOf Shear s = shearCut s
 
 abbrev pub termFor : Stress → Shell → Fraction → Term
 termFor Axial s σ = axialTerm s σ

@@ -4,7 +4,7 @@ ghost use mathlib.Core.Path.{_≡_};
 ghost use lib.Dec.{leb};
 ghost use Prim.Native.Nat.{_*_, _/_, _≤_, _<_, min};
 ghost use Rattle.wide.specs.Value.{base};
-ghost use Rattle.cylinder.specs.Within.{Within};
+ghost use Rattle.cylinder.specs.InLimits.{InLimits};
 ghost use Rattle.cylinder.specs.WholeStress.{excess as excessOf};
 ghost use Rattle.cylinder.specs.Search.{grid, place as placeOf, judge};
 ghost use Rattle.lengths.specs.Short.{shortOf};
@@ -36,7 +36,7 @@ struct Placed {
 
 // The place of S: on a grid of 1/200,000,000 where S is below 2, and of 1/8,000,000 from 2 up.
 fn place(kind: Stress, short: bool, s: Shell) -> Placed
-    requires { ⌜ (Within s) × (short ≡ shortOf kind s) ⌝ }
+    requires { ⌜ (InLimits s) × (short ≡ shortOf kind s) ⌝ }
     ensures { λ r. ⌜ (r .grid ≡ grid (cutOf kind short s)) × (r .at ≡ placeOf (cutOf kind short s) (grid (cutOf kind short s))) × (r .at < base) × (r .grid ≤ 200000000) ⌝ }
 {
     let k = reach::highest(kind, short, s, 200000000, 400000000);
@@ -63,7 +63,7 @@ fn reaches_at(p: Placed, a: u64, b: u64) -> bool
 
 // Whether S is a/b or less, where a/b is a point of the grid: only where S is placed at a/b itself has it to be compared.
 fn within_at(kind: Stress, short: bool, s: Shell, p: Placed, a: u64, b: u64) -> bool
-    requires { ⌜ (Within s) × (short ≡ shortOf kind s) × (p .grid ≡ grid (cutOf kind short s)) × (p .at ≡ placeOf (cutOf kind short s) (grid (cutOf kind short s))) × (a ≤ 100) × (b ≤ 100) × (0 < b) × (20 * a ≡ 20 * a / b * b) ⌝ }
+    requires { ⌜ (InLimits s) × (short ≡ shortOf kind s) × (p .grid ≡ grid (cutOf kind short s)) × (p .at ≡ placeOf (cutOf kind short s) (grid (cutOf kind short s))) × (a ≤ 100) × (b ≤ 100) × (0 < b) × (20 * a ≡ 20 * a / b * b) ⌝ }
     ensures { λ r. ⌜ r ≡ cutOf kind short s .within a b ⌝ }
 {
     let x = p.at * b;
@@ -92,7 +92,7 @@ struct Limits {
 
 // The branches of the curves in which S lies, from its place.
 fn branches(kind: Stress, short: bool, s: Shell, p: Placed) -> Limits
-    requires { ⌜ (Within s) × (short ≡ shortOf kind s) × (p .grid ≡ grid (cutOf kind short s)) × (p .at ≡ placeOf (cutOf kind short s) (grid (cutOf kind short s))) ⌝ }
+    requires { ⌜ (InLimits s) × (short ≡ shortOf kind s) × (p .grid ≡ grid (cutOf kind short s)) × (p .at ≡ placeOf (cutOf kind short s) (grid (cutOf kind short s))) ⌝ }
     ensures { λ r. ⌜ Sides (cutOf kind short s) r ⌝ }
 {
     Limits {
@@ -171,7 +171,7 @@ fn excess(s: Shell) -> u64
 
 // The term of a stress above 0 from below, in millionths, up to 2,000,000.
 fn lowest(kind: Stress, s: Shell, num: u64, den: u64) -> u64
-    requires { ⌜ (Within s) × (num < base) × (den < base) ⌝ }
+    requires { ⌜ (InLimits s) × (num < base) × (den < base) ⌝ }
     ensures { λ r. ⌜ r ≡ lowOf kind s num den ⌝ }
 {
     let short = lengths::is_short(kind, s);
@@ -183,7 +183,7 @@ fn lowest(kind: Stress, s: Shell, num: u64, den: u64) -> u64
 
 // The term of a stress in millionths: 0 for a stress of 0, else less than 2 over its low bound.
 fn term_bounds(kind: Stress, s: Shell, load: Load) -> Bounds
-    requires { ⌜ (Within s) × Small load ⌝ }
+    requires { ⌜ (InLimits s) × Small load ⌝ }
     ensures { λ r. ⌜ (r .low ≡ pairOf kind s load .low) × (r .high ≡ pairOf kind s load .high) × (r .low ≤ 2000000) × (r .high ≤ 2000002) ⌝ }
 {
     if load.num == 0 {
@@ -202,7 +202,7 @@ fn capped(x: u64) -> u64
 
 // L and U of a cylinder under three stresses.
 pub fn of_sum(s: Shell, axial: Load, ring: Load, shear: Load) -> Bounds
-    requires { ⌜ (Within s) × (Small axial) × (Small ring) × (Small shear) ⌝ }
+    requires { ⌜ (InLimits s) × (Small axial) × (Small ring) × (Small shear) ⌝ }
     ensures { λ r. ⌜ (r .low ≡ judge s (fractionOf axial) (fractionOf ring) (fractionOf shear) .low) × (r .high ≡ judge s (fractionOf axial) (fractionOf ring) (fractionOf shear) .high) ⌝ }
 {
     let a = term_bounds(Stress::Axial, s, axial);

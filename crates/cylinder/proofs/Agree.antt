@@ -8,7 +8,8 @@ use lib.Dec.{leb, eqb, lit<}
 use borrow.Author.Tests.{leb-true, le-leb}
 use Rattle.cylinder.specs.declared.Shell.{Shell}
 use Rattle.cylinder.specs.Fraction.{Fraction, _//_, whole, tenths, hundredths, thousandths, _⊕_, _⊗_, _⊘_, _↑_}
-use Rattle.cylinder.specs.Number.{Number, exactly, plusRoot, minusRoot, scaled, pick}
+use Rattle.cylinder.specs.Number.{Number, exactly, plusRoot, minusRoot, scaled}
+use Rattle.algebra.specs.Choice.{pick}
 use Rattle.cylinder.specs.Ideal.{E, fy, η, Cφ, r/t, t/r, r/l, l/r, axialShort, shortCx, longCx, ringShort, ringShortStress, ringLongStress, shearShort, shearShortSquare, shearLongSquare}
 use Rattle.cylinder.specs.Resistance.{slender, slenderShear, axialS, ringS, shearS}
 use Rattle.cylinder.specs.Cut.{Cut, fraction, rootOf}
@@ -153,12 +154,12 @@ module _ (s : Shell) (ok : Sound s) where
       go false false = record { m = 4; k = 1; m-pos = lit< tt; k-pos = lit< tt; num = refl; den = refl }
 
   -- the length tests
-  axial-short : axialShort s ≡ WholeIdeal.axialShort s
+  axial-short : axialShort s ≡ WholeIdeal.axialIsShort s
   axial-short =
       at-most (power l/r-like 2) (again (times (power (self 5 10) 2) r/t-like) 1 100 (50 * s .radius) (s .wall) (lit< tt) (lit< tt) (omega arith) (omega arith))
       ∙ ap (leb (s .length ^ 2 * s .wall)) (cubed 50 (s .radius))
 
-  ring-short : ringShort s ≡ WholeIdeal.ringShort s
+  ring-short : ringShort s ≡ WholeIdeal.ringIsShort s
   ring-short =
       at-most (power l/r-like 2)
       (again (times (power (times (self 163 100) Cφ-like) 2) r/t-like) 1 200 (26569 * WholeIdeal.ringEdges (s .edges) ^ 2 * s .radius) (800 * s .wall) (lit< tt) (lit< tt)
@@ -168,7 +169,7 @@ module _ (s : Shell) (ok : Sound s) where
       commuted : (a b : ℕ) → a * (800 * b) ≡ 800 * a * b
       commuted a b = omega arith
 
-  shear-short : shearShort s ≡ WholeIdeal.shearShort s
+  shear-short : shearShort s ≡ WholeIdeal.shearIsShort s
   shear-short =
       at-most (power l/r-like 2) (again (times (power (self 87 10) 2) r/t-like) 1 100 (15138 * s .radius) (s .wall) (lit< tt) (lit< tt) (omega arith) (omega arith))
       ∙ ap (leb (s .length ^ 2 * s .wall)) (cubed 15138 (s .radius))
@@ -204,7 +205,7 @@ module _ (s : Shell) (ok : Sound s) where
       (mul-pos {m = 5} (lit< tt) (ok .radius)) (simp pow-two (omega arith)) (simp pow-two (omega arith))))
       1 1 _ _ (lit< tt) (lit< tt) (omega arith) (omega arith)
 
-  axial-short-agree : Agree (slender (fy s) (scaled (thousandths 0_605 ⊗ E s ⊗ t/r s) (shortCx s))) (WholeIdeal.axialShortS s)
+  axial-short-agree : Agree (slender (fy s) (scaled (thousandths 0_605 ⊗ E s ⊗ t/r s) (shortCx s))) (WholeIdeal.axialShortCut s)
   axial-short-agree =
       exact-Cx (400 * s .length ^ 2 + 3 * s .radius * s .wall) (400 * s .length ^ 2) (16000000 * s .radius * s .length ^ 2 * s .«yield_stress»)
       (121 * s .modulus * s .wall * (400 * s .length ^ 2 + 3 * s .radius * s .wall)) short-Cx (omega arith) refl
@@ -247,7 +248,7 @@ module _ (s : Shell) (ok : Sound s) where
   floor-agree : Agree (slender (fy s) (scaled (thousandths 0_605 ⊗ E s ⊗ t/r s) (exactly (tenths 0_6)))) (rootOf 2 (WholeIdeal.axialFloor s))
   floor-agree = exact-Cx 6 10 (400000 * s .radius * s .«yield_stress») (6 * (121 * s .modulus * s .wall)) (self 6 10) (omega arith) (omega arith)
 
-  axial-long-agree : Agree (slender (fy s) (scaled (thousandths 0_605 ⊗ E s ⊗ t/r s) (longCx s))) (WholeIdeal.axialLongS s)
+  axial-long-agree : Agree (slender (fy s) (scaled (thousandths 0_605 ⊗ E s ⊗ t/r s) (longCx s))) (WholeIdeal.axialLongCut s)
   unfolding bent
   axial-long-agree =
       record {
@@ -256,11 +257,11 @@ module _ (s : Shell) (ok : Sound s) where
       }
 
   -- S of (1)
-  pub axial-agree : Agree (axialS s) (WholeIdeal.axialS s)
+  pub axial-agree : Agree (axialS s) (WholeIdeal.axialCut s)
   axial-agree =
       rw axial-short
-      (either (λ x. slender (fy s) (scaled (thousandths 0_605 ⊗ E s ⊗ t/r s) x)) (WholeIdeal.axialShort s) (shortCx s) (longCx s) (WholeIdeal.axialShortS s)
-      (WholeIdeal.axialLongS s) axial-short-agree axial-long-agree)
+      (either (λ x. slender (fy s) (scaled (thousandths 0_605 ⊗ E s ⊗ t/r s) x)) (WholeIdeal.axialIsShort s) (shortCx s) (longCx s) (WholeIdeal.axialShortCut s)
+      (WholeIdeal.axialLongCut s) axial-short-agree axial-long-agree)
 
   -- ring
   ring-v : Like (hundredths 0_92 ⊗ Cφ s ⊗ E s ⊗ r/l s ⊗ t/r s) (23 * WholeIdeal.ringEdges (s .edges) * s .modulus * s .wall) (20000 * s .length)
@@ -268,7 +269,7 @@ module _ (s : Shell) (ok : Sound s) where
       again (times (times (times (times (self 92 100) Cφ-like) (self (s .modulus) 1)) r/l-like) t/r-like) 1 (4 * s .radius) _ _ (lit< tt)
       (mul-pos {m = 4} (lit< tt) (ok .radius)) (omega arith) (omega arith)
 
-  ring-short-agree : Agree (slender (fy s) (ringShortStress s)) (WholeIdeal.ringShortS s)
+  ring-short-agree : Agree (slender (fy s) (ringShortStress s)) (WholeIdeal.ringShortCut s)
   ring-short-agree =
       record {
         reaches = λ p q. at-most root (power (at-2 (s .«yield_stress») p q) 2) ∙ ap₂ leb (up (p ^ 2)) (down (q ^ 2));
@@ -301,14 +302,14 @@ module _ (s : Shell) (ok : Sound s) where
       (omega arith) (omega arith)))
       1 (s .wall ^ 2) _ _ (lit< tt) (one-le-pow 2 (s .wall) (ok .wall)) (omega arith) (simp pow-two (omega arith))
 
-  ring-long-agree : Agree (slender (fy s) (ringLongStress s)) (WholeIdeal.ringLongS s)
+  ring-long-agree : Agree (slender (fy s) (ringLongStress s)) (WholeIdeal.ringLongCut s)
   ring-long-agree = exact-2 (s .«yield_stress») long-like
 
   -- S of (2)
-  pub ring-agree : Agree (ringS s) (WholeIdeal.ringS s)
+  pub ring-agree : Agree (ringS s) (WholeIdeal.ringCut s)
   ring-agree =
       rw ring-short
-      (either (slender (fy s)) (WholeIdeal.ringShort s) (ringShortStress s) (ringLongStress s) (WholeIdeal.ringShortS s) (WholeIdeal.ringLongS s) ring-short-agree
+      (either (slender (fy s)) (WholeIdeal.ringIsShort s) (ringShortStress s) (ringLongStress s) (WholeIdeal.ringShortCut s) (WholeIdeal.ringLongCut s) ring-short-agree
       ring-long-agree)
 
   -- shear
@@ -332,7 +333,7 @@ module _ (s : Shell) (ok : Sound s) where
       (640000 * s .length * s .radius * s .«yield_stress» ^ 2 * q ^ 4) (27 * s .modulus ^ 2 * s .wall ^ 2 * p ^ 4)
   at-shear p q = again (per (at-4 (s .«yield_stress») p q) shear-base) 1 1 _ _ (lit< tt) (lit< tt) (omega arith) (omega arith)
 
-  shear-short-agree : Agree (slenderShear (fy s) (shearShortSquare s)) (WholeIdeal.shearShortS s)
+  shear-short-agree : Agree (slenderShear (fy s) (shearShortSquare s)) (WholeIdeal.shearShortCut s)
   shear-short-agree =
       record {
         reaches = λ p q.
@@ -367,12 +368,12 @@ module _ (s : Shell) (ok : Sound s) where
       again (times (times (power (self 25 100) 2) (power (self (s .modulus) 1) 2)) (power t/r-like 3)) 1 625 _ _ (lit< tt) (lit< tt) (omega arith)
       (simp pow-three (omega arith))
 
-  shear-long-agree : Agree (slenderShear (fy s) (shearLongSquare s)) (WholeIdeal.shearLongS s)
+  shear-long-agree : Agree (slenderShear (fy s) (shearLongSquare s)) (WholeIdeal.shearLongCut s)
   shear-long-agree = exact-4 (s .«yield_stress») (3 * s .modulus ^ 2 * s .wall ^ 3) (omega arith) shear-long-like
 
   -- S of (3)
-  pub shear-agree : Agree (shearS s) (WholeIdeal.shearS s)
+  pub shear-agree : Agree (shearS s) (WholeIdeal.shearCut s)
   shear-agree =
       rw shear-short
-      (either (slenderShear (fy s)) (WholeIdeal.shearShort s) (shearShortSquare s) (shearLongSquare s) (WholeIdeal.shearShortS s) (WholeIdeal.shearLongS s) shear-short-agree
+      (either (slenderShear (fy s)) (WholeIdeal.shearIsShort s) (shearShortSquare s) (shearLongSquare s) (WholeIdeal.shearShortCut s) (WholeIdeal.shearLongCut s) shear-short-agree
       shear-long-agree)

@@ -9,8 +9,8 @@ use lib.Dec.{lit<}
 use Rattle.cylinder.specs.Fraction.{_//_}
 use Rattle.cylinder.specs.Number.{exactly}
 use Rattle.cylinder.specs.Resistance.{Branch1, Branch2, branch1, branch2}
-use Rattle.cylinder.specs.Cut.{Cut, number}
-use Rattle.cylinder.specs.WholeCurves.{long, tolerance}
+use Rattle.cylinder.specs.Cut.{Cut, asNumber}
+use Rattle.cylinder.specs.WholeCurves.{long, toleranceFactor}
 use Rattle.cylinder.proofs.Falls.{Falls, constant-falls, falling-falls}
 use Rattle.cylinder.proofs.Slow.{Slow, constant-slow, falling-slow}
 use Rattle.cylinder.proofs.Lawful.{Lawful}
@@ -18,10 +18,10 @@ use Rattle.cylinder.proofs.Placed.{Placed, placed-below, far-or-finer}
 
 -- p/q lies in the branches of s
 abbrev pub Same1 : Cut → ℕ → ℕ → Type 0
-Same1 s p q = branch1 (exactly (p // q)) ≡ branch1 (number s)
+Same1 s p q = branch1 (exactly (p // q)) ≡ branch1 (asNumber s)
 
 abbrev pub Same2 : Cut → ℕ → ℕ → Type 0
-Same2 s p q = branch2 (exactly (p // q)) ≡ branch2 (number s)
+Same2 s p q = branch2 (exactly (p // q)) ≡ branch2 (asNumber s)
 
 -- branches with the same answers are the same
 abbrev answers1 : Bool → Bool → Bool → Branch1
@@ -45,16 +45,16 @@ same2 B C a b c d e = all a b c d e
 
 -- ---- the tolerance, at an excess of e thousandths
 
-pub tolerance-falls : (l : Bool) (e : ℕ) → Falls (tolerance l e)
+pub tolerance-falls : (l : Bool) (e : ℕ) → Falls (toleranceFactor l e)
 tolerance-falls true e = constant-falls (2000 - e) 2000
 tolerance-falls false e = falling-falls 3000 e 3000
 
-pub tolerance-den : (l : Bool) (e p q : ℕ) → 0 < q → 0 < tolerance l e .den p q
+pub tolerance-den : (l : Bool) (e p q : ℕ) → 0 < q → 0 < toleranceFactor l e .den p q
 tolerance-den true e p q pos = lit< tt
 tolerance-den false e p q pos = mul-pos {m = 3000} (lit< tt) pos
 
 pub tolerance-slow : (s : Cut) → Lawful s → (k q v : ℕ) → Placed s k q v → (l : Bool) (e : ℕ) → e ≤ 1000 → long s ≡ l →
-    Slow 100000000 100000001 (tolerance l e) k q
+    Slow 100000000 100000001 (toleranceFactor l e) k q
 tolerance-slow s law k q v at true e le h = constant-slow (2000 - e) 2000 100000000 k q
 tolerance-slow s law k q v at false e le h = falling-slow 3000 e 3000 100000000 k q (small (far-or-finer s law k q v at))
   where

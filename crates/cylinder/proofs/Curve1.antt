@@ -8,10 +8,11 @@ use native.Mathlib.Omega.{arith}
 use lib.Dec.{lit<}
 use borrow.Author.Tests.{leb-true}
 use Rattle.cylinder.specs.Fraction.{_//_}
-use Rattle.cylinder.specs.Number.{exactly, pick}
+use Rattle.cylinder.specs.Number.{exactly}
+use Rattle.algebra.specs.Choice.{pick}
 use Rattle.cylinder.specs.Resistance.{Branch1, branch1}
-use Rattle.cylinder.specs.Cut.{Cut, number}
-use Rattle.cylinder.specs.WholeCurves.{Part, plateau, line, cubic, quadratic, part1, reduction1, long, tolerance, factor1}
+use Rattle.cylinder.specs.Cut.{Cut, asNumber}
+use Rattle.cylinder.specs.WholeCurves.{Part, plateau, line, cubic, quadratic, part1, reduction1, long, toleranceFactor, factor1}
 use Rattle.cylinder.proofs.Falls.{Falls, constant-falls, falling-falls, inverse-falls, times-falls}
 use Rattle.cylinder.proofs.Slow.{Slow, constant-slow, falling-slow, square-slow, times-slow}
 use Rattle.cylinder.proofs.Lawful.{Lawful}
@@ -30,7 +31,7 @@ reduction-falls cubic = constant-falls 1 1
 reduction-falls quadratic = inverse-falls 2 65 100
 
 pub factor1-falls : (s : Cut) (e : ℕ) → Falls (factor1 s e)
-factor1-falls s e = times-falls (reduction1 (part1 s)) (tolerance (long s) e) (reduction-falls (part1 s)) (tolerance-falls (long s) e)
+factor1-falls s e = times-falls (reduction1 (part1 s)) (toleranceFactor (long s) e) (reduction-falls (part1 s)) (tolerance-falls (long s) e)
 
 reduction-den : (w r : Bool) (p q : ℕ) → 0 < q → (r ≡ true → 0 < p) → 0 < reduction1 (choice w r) .den p q
 reduction-den true r p q pos some = lit< tt
@@ -54,7 +55,7 @@ module _ (s : Cut) (law : Lawful s) (k q v : ℕ) (at : Placed s k q v) where
         positive = u .positive;
         reached = u .reached;
         inside =
-            same1 (branch1 (exactly (u .p // u .r))) (branch1 (number s)) (same-within s law (u .p) (u .r) 4 10 (u .reached) (u .over))
+            same1 (branch1 (exactly (u .p // u .r))) (branch1 (asNumber s)) (same-within s law (u .p) (u .r) 4 10 (u .reached) (u .over))
             (same-reaches s law (u .p) (u .r) 12 10 (u .positive) (u .reached) (λ e. up 12 10 (from-1·2 e)))
             (same-reaches s law (u .p) (u .r) 15 10 (u .positive) (u .reached) (λ e. up 15 10 (from-1·5 e)));
         over = u .at-least;
@@ -87,7 +88,7 @@ module _ (s : Cut) (law : Lawful s) (k q v : ℕ) (at : Placed s k q v) where
         d = 5000001 * 100000001;
         some = lit< tt;
         slow =
-            times-slow 5000000 5000001 100000000 100000001 (reduction1 (part1 s)) (tolerance (long s) e) k q
+            times-slow 5000000 5000001 100000000 100000001 (reduction1 (part1 s)) (toleranceFactor (long s) e) k q
             (reduction-slow (s .within 4 10) (s .reaches 12 10) refl (far-or-finer s law k q v at))
             (tolerance-slow s law k q v at (long s) e small refl);
         fine = fine;

@@ -8,11 +8,12 @@ use native.Mathlib.Omega.{arith}
 use lib.Dec.{lit<}
 use borrow.Author.Tests.{leb-false}
 use Rattle.cylinder.specs.Fraction.{_//_}
-use Rattle.cylinder.specs.Number.{exactly, pick}
+use Rattle.cylinder.specs.Number.{exactly}
+use Rattle.algebra.specs.Choice.{pick}
 use Rattle.cylinder.specs.Resistance.{Branch2, branch2}
-use Rattle.cylinder.specs.Cut.{Cut, number}
+use Rattle.cylinder.specs.Cut.{Cut, asNumber}
 use Rattle.cylinder.specs.Factor.{times}
-use Rattle.cylinder.specs.WholeCurves.{Part, plateau, line, cubic, quadratic, part2, reduction2, long, tolerance, safety, factor2}
+use Rattle.cylinder.specs.WholeCurves.{Part, plateau, line, cubic, quadratic, part2, reduction2, long, toleranceFactor, safety, factor2}
 use Rattle.cylinder.proofs.Falls.{Falls, constant-falls, falling-falls, inverse-falls, divided-falls, times-falls}
 use Rattle.cylinder.proofs.Slow.{Slow, constant-slow, falling-slow, square-slow, cube-slow, divided-slow, times-slow}
 use Rattle.cylinder.proofs.Lawful.{Lawful}
@@ -37,8 +38,8 @@ safety-falls false false = divided-falls 6682 1272 7000
 
 pub factor2-falls : (s : Cut) (e : ℕ) → Falls (factor2 s e)
 factor2-falls s e =
-    times-falls (times (reduction2 (part2 s)) (tolerance (long s) e)) (safety (s .within 25 100) (s .reaches 2 1))
-    (times-falls (reduction2 (part2 s)) (tolerance (long s) e) (reduction-falls (part2 s)) (tolerance-falls (long s) e))
+    times-falls (times (reduction2 (part2 s)) (toleranceFactor (long s) e)) (safety (s .within 25 100) (s .reaches 2 1))
+    (times-falls (reduction2 (part2 s)) (toleranceFactor (long s) e) (reduction-falls (part2 s)) (tolerance-falls (long s) e))
     (safety-falls (s .within 25 100) (s .reaches 2 1))
 
 reduction-den : (a b c : Bool) (p q : ℕ) → 0 < q → (b ≡ false → 0 < p) → 0 < reduction2 (choice a b c) .den p q
@@ -77,7 +78,7 @@ module _ (s : Cut) (law : Lawful s) (k q v : ℕ) (at : Placed s k q v) where
         positive = z .positive;
         reached = z .reached;
         inside =
-            same2 (branch2 (exactly (z .p // z .r))) (branch2 (number s))
+            same2 (branch2 (exactly (z .p // z .r))) (branch2 (asNumber s))
             (same-within s law (z .p) (z .r) 25 100 (z .reached) (λ e. lt-le 25 100 (u .p) (u .r) (z .p) (z .r) (u .positive) (u .over e) from-u (z .positive)))
             (same-within s law (z .p) (z .r) 1 1 (z .reached) (λ e. lt-le 1 1 (w .p) (w .r) (z .p) (z .r) (w .positive) (w .over e) (z .at-least) (z .positive)))
             (same-within s law (z .p) (z .r) 15 10 (z .reached) (z .over))
@@ -124,9 +125,9 @@ module _ (s : Cut) (law : Lawful s) (k q v : ℕ) (at : Placed s k q v) where
         d = 5000001 * 100000001 * 100000001;
         some = lit< tt;
         slow =
-            times-slow (5000000 * 100000000) (5000001 * 100000001) 100000000 100000001 (times (reduction2 (part2 s)) (tolerance (long s) e))
+            times-slow (5000000 * 100000000) (5000001 * 100000001) 100000000 100000001 (times (reduction2 (part2 s)) (toleranceFactor (long s) e))
             (safety (s .within 25 100) (s .reaches 2 1)) k q
-            (times-slow 5000000 5000001 100000000 100000001 (reduction2 (part2 s)) (tolerance (long s) e) k q
+            (times-slow 5000000 5000001 100000000 100000001 (reduction2 (part2 s)) (toleranceFactor (long s) e) k q
             (reduction-slow (s .within 25 100) (s .within 1 1) (s .within 15 10) refl refl (far-or-finer s law k q v at))
             (tolerance-slow s law k q v at (long s) e small refl))
             (safety-slow (s .within 25 100) (s .reaches 2 1) refl);

@@ -7,12 +7,12 @@ use lib.Dec.{leb, lit<}
 use borrow.Author.Tests.{leb-false}
 use Rattle.cylinder.specs.declared.Shell.{Shell}
 use Rattle.cylinder.specs.Fraction.{Fraction, _//_, whole, tenths, hundredths, thousandths, _⊕_, _⊖_, _⊗_, _⊘_, _↑_, _atMost_}
-use Rattle.cylinder.specs.Number.{pick}
+use Rattle.algebra.specs.Choice.{pick}
 use Rattle.cylinder.specs.Resistance.{Branch2, branch1, branch2, κ1, κ2, tolerance, q, γ2}
 use Rattle.cylinder.specs.Sum.{axialTest, ringTest, shearTest}
-use Rattle.cylinder.specs.Cut.{Cut, number}
+use Rattle.cylinder.specs.Cut.{Cut, asNumber}
 use Rattle.cylinder.specs.Factor.{Factor}
-use Rattle.cylinder.specs.WholeCurves.{plateau, line, cubic, quadratic, reduction1, part2, reduction2, long, tolerance as wholeTolerance, safety, factor1, factor2}
+use Rattle.cylinder.specs.WholeCurves.{plateau, line, cubic, quadratic, reduction1, part2, reduction2, long, toleranceFactor, safety, factor1, factor2}
 use Rattle.cylinder.specs.WholeTerm.{formula}
 use Rattle.cylinder.specs.WholeStress.{excess}
 use Rattle.algebra.proofs.Powers.{mul-pow, pow-one, pow-two}
@@ -44,7 +44,7 @@ module _ (p r : ℕ) where
   excess-of s = omega arith
 
   slack : (s : Shell) (w : Bool) → s .imperfection ≤ 2000 →
-      Is (pick w (tenths 1_5 ⊖ tenths 0_5 ⊗ q s) (whole 1 ⊖ g ⊘ whole 3 ⊗ (q s ⊖ whole 1))) (wholeTolerance w (excess s)) p r
+      Is (pick w (tenths 1_5 ⊖ tenths 0_5 ⊗ q s) (whole 1 ⊖ g ⊘ whole 3 ⊗ (q s ⊖ whole 1))) (toleranceFactor w (excess s)) p r
   slack s true le = record { m = 1; k = 50; m-pos = lit< tt; k-pos = lit< tt; num = omega arith; den = omega arith }
   slack s false le = record { m = 1; k = 1; m-pos = lit< tt; k-pos = lit< tt; num = omega (arith, ap (λ (z : ℕ). p * z) (excess-of s)); den = omega arith }
 
@@ -66,16 +66,16 @@ shear-right n t D = simp (pow-one, pow-two) (omega arith)
 
 module _ (s : Shell) (le : s .imperfection ≤ 2000) (c : Cut) (p r : ℕ) where
   -- κ1 and κ2 with their tolerance
-  pub κ1-like : Like (κ1 (branch1 (number c)) (p // r) ⊗ tolerance (branch1 (number c) .from-1·5) (q s) (p // r)) (factor1 c (excess s) .num p r)
+  pub κ1-like : Like (κ1 (branch1 (asNumber c)) (p // r) ⊗ tolerance (branch1 (asNumber c) .from-1·5) (q s) (p // r)) (factor1 c (excess s) .num p r)
       (factor1 c (excess s) .den p r)
   κ1-like = times (one p r (c .within 4 10) (c .reaches 12 10)) (slack p r s (c .reaches 15 10) le)
 
-  pub κ2-like : Like (κ2 (branch2 (number c)) (p // r) ⊗ tolerance (branch2 (number c) .from-1·5) (q s) (p // r))
-      (reduction2 (part2 c) .num p r * wholeTolerance (long c) (excess s) .num p r) (reduction2 (part2 c) .den p r * wholeTolerance (long c) (excess s) .den p r)
+  pub κ2-like : Like (κ2 (branch2 (asNumber c)) (p // r) ⊗ tolerance (branch2 (asNumber c) .from-1·5) (q s) (p // r))
+      (reduction2 (part2 c) .num p r * toleranceFactor (long c) (excess s) .num p r) (reduction2 (part2 c) .den p r * toleranceFactor (long c) (excess s) .den p r)
   κ2-like = times (two p r (c .within 25 100) (c .within 1 1) (c .within 15 10)) (slack p r s (c .reaches 15 10) le)
 
   -- the difference in γ2 is not cut off, since p/r is in the branches
-  pub γ2-like : Same2 c p r → Like (γ2 (branch2 (number c)) (p // r)) (11 * safety (c .within 25 100) (c .reaches 2 1) .den p r)
+  pub γ2-like : Same2 c p r → Like (γ2 (branch2 (asNumber c)) (p // r)) (11 * safety (c .within 25 100) (c .reaches 2 1) .den p r)
       (10 * safety (c .within 25 100) (c .reaches 2 1) .num p r)
   γ2-like same = partial p r (c .within 25 100) (c .reaches 2 1) (ap (λ (B : Branch2). B .upTo-0·25) same)
 
@@ -85,21 +85,21 @@ module _ (s : Shell) (le : s .imperfection ≤ 2000) (c : Cut) (p r : ℕ) where
       at-most (power (self b n) 4) (power h 5) ∙ ap₂ (λ (x y : ℕ). leb (b ^ 4 * x) (y * n ^ 4)) (mul-pow C D 5) (mul-pow A B 5)
 
   -- the tests of the three terms
-  pub axial-test : (σ : Fraction) (b n : ℕ) → Same2 c p r → axialTest s σ b n (branch2 (number c)) (p // r)
+  pub axial-test : (σ : Fraction) (b n : ℕ) → Same2 c p r → axialTest s σ b n (branch2 (asNumber c)) (p // r)
       ≡ formula (record { rise = 4; power = 5; top = (10000 * s .«yield_stress» * σ .den) ^ 5; load = (11 * σ .num) ^ 5; factor = factor2 c (excess s) }) p r b n
   axial-test σ b n same =
       fifth (11 * σ .num) (factor2 c (excess s) .den p r) (10000 * s .«yield_stress» * σ .den) (factor2 c (excess s) .num p r) b n
       (again (per (self (σ .num) (σ .den)) (times (self 1000 1) (per (times κ2-like (self (s .«yield_stress») 1)) (γ2-like same)))) 1 1 _ _ (lit< tt) (lit< tt)
       (omega arith) (omega arith))
 
-  pub ring-test : (σ : Fraction) (b n : ℕ) → ringTest s σ b n (branch1 (number c)) (p // r)
+  pub ring-test : (σ : Fraction) (b n : ℕ) → ringTest s σ b n (branch1 (asNumber c)) (p // r)
       ≡ formula (record { rise = 4; power = 5; top = (10000 * s .«yield_stress» * σ .den) ^ 5; load = (11 * σ .num) ^ 5; factor = factor1 c (excess s) }) p r b n
   ring-test σ b n =
       fifth (11 * σ .num) (factor1 c (excess s) .den p r) (10000 * s .«yield_stress» * σ .den) (factor1 c (excess s) .num p r) b n
       (again (per (self (σ .num) (σ .den)) (times (self 1000 1) (per (times κ1-like (self (s .«yield_stress») 1)) (self 11 10)))) 1 1 _ _ (lit< tt) (lit< tt)
       (omega arith) (omega arith))
 
-  pub shear-test : (τ : Fraction) (b n : ℕ) → shearTest s τ b n (branch1 (number c)) (p // r)
+  pub shear-test : (τ : Fraction) (b n : ℕ) → shearTest s τ b n (branch1 (asNumber c)) (p // r)
       ≡ formula (record { rise = 1; power = 2; top = (10000 * s .«yield_stress» * τ .den) ^ 2; load = 3 * (11 * τ .num) ^ 2; factor = factor1 c (excess s) }) p r b n
   shear-test τ b n =
       at-most (self b n)

@@ -7,9 +7,9 @@ use native.Mathlib.Omega.{arith}
 use lib.Dec.{eqb, lit<}
 use borrow.Author.Tests.{lt-leb}
 use Rattle.cylinder.specs.declared.Shell.{Shell}
-use Rattle.cylinder.specs.Number.{pick}
+use Rattle.algebra.specs.Choice.{pick}
 use Rattle.cylinder.specs.Cut.{Cut}
-use Rattle.cylinder.specs.WholeIdeal.{ringEdges, axialShort, ringShort, shearShort, axialShortS, axialBent, axialLongS, axialS, ringShortS, ringLongS, ringS, shearShortS, shearLongS, shearS}
+use Rattle.cylinder.specs.WholeIdeal.{ringEdges, axialIsShort, ringIsShort, shearIsShort, axialShortCut, axialBent, axialLongCut, axialCut, ringShortCut, ringLongCut, ringCut, shearShortCut, shearLongCut, shearCut}
 use Rattle.algebra.proofs.Powers.{pow-two, pow-three, pow-four}
 use Rattle.algebra.proofs.Tests.{missed-right}
 use Rattle.cylinder.proofs.Limits.{Sound, edges-four}
@@ -29,7 +29,7 @@ squares X Y a b Z r w x y thick lt zpos wpos =
     ))
 
 module _ (s : Shell) (ok : Sound s) where
-  axial-short-far : axialShortS s .reaches 536 1 ≡ false
+  axial-short-far : axialShortCut s .reaches 536 1 ≡ false
   axial-short-far = lt-leb _ _ less
     where
       less : 16000000 * s .radius * s .length ^ 2 * s .«yield_stress» * 1 ^ 2 < 536 ^ 2 * (121 * s .modulus * s .wall * (400 * s .length ^ 2 + 3 * s .radius * s .wall))
@@ -41,13 +41,13 @@ module _ (s : Shell) (ok : Sound s) where
             mul-pos (ok .wall) (one-le-pow 2 (s .length) (ok .length)),
           )
 
-  axial-long-far : axialLongS s .reaches 536 1 ≡ false
+  axial-long-far : axialLongCut s .reaches 536 1 ≡ false
   axial-long-far = missed-right (axialBent s .reaches (536 ^ 2) (1 ^ 2)) _ (lt-leb _ _ less)
     where
       less : 400000 * s .radius * s .«yield_stress» * 1 ^ 2 < 536 ^ 2 * (6 * (121 * s .modulus * s .wall))
       less = omega (arith, mul-le-mul (ok .thick) (ok .soft), mul-le-mul-left (s .wall) (ok .modulus), ok .wall)
 
-  ring-short-far : ringShortS s .reaches 536 1 ≡ false
+  ring-short-far : ringShortCut s .reaches 536 1 ≡ false
   ring-short-far =
       lt-leb _ _
       (squares (20000 * s .length * s .«yield_stress» * 1 ^ 2) (23 * ringEdges (s .edges) * s .modulus * s .wall * 536 ^ 2) 8750000000 (23 * 240000 * 536 ^ 2) (s .wall) (s .radius)
@@ -57,7 +57,7 @@ module _ (s : Shell) (ok : Sound s) where
       long : s .length ≤ 625 * s .wall
       long = omega (arith, ok .stout, ok .thick)
 
-  ring-long-far : ringLongS s .reaches 536 1 ≡ false
+  ring-long-far : ringLongCut s .reaches 536 1 ≡ false
   ring-long-far = lt-leb _ _ less
     where
       less : 6400000 * s .radius ^ 2 * s .length ^ 4 * s .«yield_stress» * 1 ^ 2
@@ -71,7 +71,7 @@ module _ (s : Shell) (ok : Sound s) where
             mul-pos (mul-pos (ok .wall) (ok .wall)) (one-le-pow 4 (s .length) (ok .length)),
           ))
 
-  shear-short-far : shearShortS s .reaches 536 1 ≡ false
+  shear-short-far : shearShortCut s .reaches 536 1 ≡ false
   shear-short-far =
       lt-leb _ _
       (squares (D * 1 ^ 4 - C * 536 ^ 4) (1080000 * s .modulus ^ 2 * s .length ^ 3 * s .wall ^ 2 * 536 ^ 4) 98000000000000000000 (1080000 * 3600000000 * 536 ^ 4)
@@ -95,7 +95,7 @@ module _ (s : Shell) (ok : Sound s) where
       down : 1080000 * 3600000000 * 536 ^ 4 * (s .length ^ 3 * s .wall ^ 2) ≤ 1080000 * s .modulus ^ 2 * s .length ^ 3 * s .wall ^ 2 * 536 ^ 4
       down = simp (pow-two) (omega (arith, mul-le-mul-left (s .length ^ 3 * (s .wall * s .wall)) (mul-le-mul (ok .modulus) (ok .modulus))))
 
-  shear-long-far : shearLongS s .reaches 536 1 ≡ false
+  shear-long-far : shearLongCut s .reaches 536 1 ≡ false
   shear-long-far = lt-leb _ _ less
     where
       less : 128000000 * s .radius ^ 3 * s .«yield_stress» ^ 2 * 1 ^ 4 < 536 ^ 4 * (3 * s .modulus ^ 2 * s .wall ^ 3)
@@ -109,11 +109,11 @@ module _ (s : Shell) (ok : Sound s) where
           ))
 
   -- so the search for k may end at 2³² on either grid
-  pub axial-far : axialS s .reaches 536 1 ≡ false
-  axial-far = pick-far (axialShort s) (axialShortS s) (axialLongS s) axial-short-far axial-long-far
+  pub axial-far : axialCut s .reaches 536 1 ≡ false
+  axial-far = pick-far (axialIsShort s) (axialShortCut s) (axialLongCut s) axial-short-far axial-long-far
 
-  pub ring-far : ringS s .reaches 536 1 ≡ false
-  ring-far = pick-far (ringShort s) (ringShortS s) (ringLongS s) ring-short-far ring-long-far
+  pub ring-far : ringCut s .reaches 536 1 ≡ false
+  ring-far = pick-far (ringIsShort s) (ringShortCut s) (ringLongCut s) ring-short-far ring-long-far
 
-  pub shear-far : shearS s .reaches 536 1 ≡ false
-  shear-far = pick-far (shearShort s) (shearShortS s) (shearLongS s) shear-short-far shear-long-far
+  pub shear-far : shearCut s .reaches 536 1 ≡ false
+  shear-far = pick-far (shearIsShort s) (shearShortCut s) (shearLongCut s) shear-short-far shear-long-far

@@ -13,8 +13,8 @@ use Rattle.cylinder.specs.Fraction.{Fraction, _//_}
 use Rattle.cylinder.specs.Number.{Number, exactly}
 use Rattle.cylinder.specs.Resistance.{Branch1, Branch2, branch1, branch2, axialS, ringS, shearS}
 use Rattle.cylinder.specs.Sum.{Reaches, unloaded, loaded, axialTest, ringTest, shearTest, AxialReaches, RingReaches, ShearReaches, Judged}
-use Rattle.cylinder.specs.Within.{Within}
-use Rattle.cylinder.specs.Cut.{Cut, number}
+use Rattle.cylinder.specs.InLimits.{InLimits}
+use Rattle.cylinder.specs.Cut.{Cut, asNumber}
 use Rattle.cylinder.specs.WholeIdeal
 use Rattle.cylinder.specs.WholeTerm.{Term, formula}
 use Rattle.cylinder.specs.WholeStress.{excess, axialTerm, ringTerm, shearTerm}
@@ -60,19 +60,19 @@ fit-bracket s same t k q v f at nz =
 
 -- ---- from the whole-number forms to the definitions
 
-branch1-agree : (S : Number) (c : Cut) → Agree S c → branch1 S ≡ branch1 (number c)
-branch1-agree S c same = same1 (branch1 S) (branch1 (number c)) (same .within 4 10) (same .reaches 12 10) (same .reaches 15 10)
+branch1-agree : (S : Number) (c : Cut) → Agree S c → branch1 S ≡ branch1 (asNumber c)
+branch1-agree S c same = same1 (branch1 S) (branch1 (asNumber c)) (same .within 4 10) (same .reaches 12 10) (same .reaches 15 10)
 
-branch2-agree : (S : Number) (c : Cut) → Agree S c → branch2 S ≡ branch2 (number c)
+branch2-agree : (S : Number) (c : Cut) → Agree S c → branch2 S ≡ branch2 (asNumber c)
 branch2-agree S c same =
-    same2 (branch2 S) (branch2 (number c)) (same .within 25 100) (same .within 1 1) (same .within 15 10) (same .reaches 15 10) (same .reaches 2 1)
+    same2 (branch2 S) (branch2 (asNumber c)) (same .within 25 100) (same .within 1 1) (same .within 15 10) (same .reaches 15 10) (same .reaches 2 1)
 
 -- for either kind of branches
-module _ (B : Type 0) (branch : Number → B) (S : Number) (c : Cut) (same : Agree S c) (branches : branch S ≡ branch (number c)) (σ : Fraction) (t : Term)
+module _ (B : Type 0) (branch : Number → B) (S : Number) (c : Cut) (same : Agree S c) (branches : branch S ≡ branch (asNumber c)) (σ : Fraction) (t : Term)
     (test : ℕ → ℕ → B → Fraction → Bool)
-    (worked : (p q b n : ℕ) → branch (exactly (p // q)) ≡ branch (number c) → test b n (branch (number c)) (p // q) ≡ formula t p q b n) where
+    (worked : (p q b n : ℕ) → branch (exactly (p // q)) ≡ branch (asNumber c) → test b n (branch (asNumber c)) (p // q) ≡ formula t p q b n) where
   abbrev In : ℕ → ℕ → Type 0
-  In p q = branch (exactly (p // q)) ≡ branch (number c)
+  In p q = branch (exactly (p // q)) ≡ branch (asNumber c)
 
   abbrev R : ℕ → ℕ → Type 0
   R b n = Reaches B branch S σ (test b n) b
@@ -123,9 +123,9 @@ module _ (B : Type 0) (branch : Number → B) (S : Number) (c : Cut) (same : Agr
       go (suc x) e = let pos : 0 < σ .num = omega arith in something _ _ pos (fit pos)
 
 pub axial-bracket : (s : Shell) → Sound s → (σ : Fraction) →
-    Bracket (AxialReaches s σ) (bounds (σ .num) (WholeIdeal.axialS s) (axialTerm s σ) .low) (bounds (σ .num) (WholeIdeal.axialS s) (axialTerm s σ) .high)
+    Bracket (AxialReaches s σ) (bounds (σ .num) (WholeIdeal.axialCut s) (axialTerm s σ) .low) (bounds (σ .num) (WholeIdeal.axialCut s) (axialTerm s σ) .high)
 axial-bracket s ok σ =
-    let c : Cut = WholeIdeal.axialS s in
+    let c : Cut = WholeIdeal.axialCut s in
     let at = placed c (axial-lawful s ok) (axial-far s ok) in
     bracket Branch2 branch2 (axialS s) c (axial-agree s ok) (branch2-agree (axialS s) c (axial-agree s ok)) σ (axialTerm s σ) (axialTest s σ)
     (λ p q b n same. axial-test s (ok .imperfect) c p q σ b n same)
@@ -136,9 +136,9 @@ axial-bracket s ok σ =
     at (omega arith))
 
 pub ring-bracket : (s : Shell) → Sound s → (σ : Fraction) →
-    Bracket (RingReaches s σ) (bounds (σ .num) (WholeIdeal.ringS s) (ringTerm s σ) .low) (bounds (σ .num) (WholeIdeal.ringS s) (ringTerm s σ) .high)
+    Bracket (RingReaches s σ) (bounds (σ .num) (WholeIdeal.ringCut s) (ringTerm s σ) .low) (bounds (σ .num) (WholeIdeal.ringCut s) (ringTerm s σ) .high)
 ring-bracket s ok σ =
-    let c : Cut = WholeIdeal.ringS s in
+    let c : Cut = WholeIdeal.ringCut s in
     let at = placed c (ring-lawful s ok) (ring-far s ok) in
     bracket Branch1 branch1 (ringS s) c (ring-agree s ok) (branch1-agree (ringS s) c (ring-agree s ok)) σ (ringTerm s σ) (ringTest s σ)
     (λ p q b n same. ring-test s (ok .imperfect) c p q σ b n)
@@ -149,9 +149,9 @@ ring-bracket s ok σ =
     at (omega arith))
 
 pub shear-bracket : (s : Shell) → Sound s → (τ : Fraction) →
-    Bracket (ShearReaches s τ) (bounds (τ .num) (WholeIdeal.shearS s) (shearTerm s τ) .low) (bounds (τ .num) (WholeIdeal.shearS s) (shearTerm s τ) .high)
+    Bracket (ShearReaches s τ) (bounds (τ .num) (WholeIdeal.shearCut s) (shearTerm s τ) .low) (bounds (τ .num) (WholeIdeal.shearCut s) (shearTerm s τ) .high)
 shear-bracket s ok τ =
-    let c : Cut = WholeIdeal.shearS s in
+    let c : Cut = WholeIdeal.shearCut s in
     let at = placed c (shear-lawful s ok) (shear-far s ok) in
     bracket Branch1 branch1 (shearS s) c (shear-agree s ok) (branch1-agree (shearS s) c (shear-agree s ok)) τ (shearTerm s τ) (shearTest s τ)
     (λ p q b n same. shear-test s (ok .imperfect) c p q τ b n)
@@ -204,5 +204,5 @@ unfolding judge
 judged s ok σx σφ τ =
     judged-by s σx σφ τ _ _ _ _ _ _ (axial-bracket s ok σx) (ring-bracket s ok σφ) (shear-bracket s ok τ)
 
-pub judged-within : (s : Shell) → Within s → (σx σφ τ : Fraction) → Judged s σx σφ τ (judge s σx σφ τ .low) (judge s σx σφ τ .high)
+pub judged-within : (s : Shell) → InLimits s → (σx σφ τ : Fraction) → Judged s σx σφ τ (judge s σx σφ τ .low) (judge s σx σφ τ .high)
 judged-within s w σx σφ τ = judged s (sound s w) σx σφ τ

@@ -7,7 +7,7 @@ use native.Mathlib.Nat.{mul-le-mul-right, le-of-mul-le-mul-right, pow-lt-pow-lef
 use native.Mathlib.Omega.{arith}
 use lib.Dec.{leb}
 use borrow.Author.Tests.{leb-true, leb-false, le-leb}
-use Rattle.cylinder.specs.Number.{pick}
+use Rattle.algebra.specs.Choice.{pick}
 use Rattle.cylinder.specs.Cut.{Cut, fraction, rootOf, overSum, overDifference, smaller, rootAtMost, rootAtLeast}
 use Rattle.algebra.proofs.Powers.{cross-pow, mul-pow, pow-two, pow-four}
 use Rattle.algebra.proofs.Tests.{and-true, and-false, or-true, or-false, both-true}

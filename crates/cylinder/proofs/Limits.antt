@@ -5,9 +5,9 @@ use native.Mathlib.Nat.{mul-pos, le-trans, one-le-pow}
 use native.Mathlib.Omega.{arith}
 use lib.Dec.{eqb, lit≤, lit<}
 use Rattle.cylinder.specs.declared.Shell.{Shell}
-use Rattle.cylinder.specs.Within.{Within}
-use Rattle.cylinder.specs.Number.{pick}
-use Rattle.cylinder.specs.WholeIdeal.{ringEdges, axialShort, ringShort, shearShort, axialShortS, axialLongS, axialS, ringShortS, ringLongS, ringS, shearShortS, shearLongS, shearS}
+use Rattle.cylinder.specs.InLimits.{InLimits}
+use Rattle.algebra.specs.Choice.{pick}
+use Rattle.cylinder.specs.WholeIdeal.{ringEdges, axialIsShort, ringIsShort, shearIsShort, axialShortCut, axialLongCut, axialCut, ringShortCut, ringLongCut, ringCut, shearShortCut, shearLongCut, shearCut}
 use Rattle.cylinder.proofs.Lawful.{Lawful, fraction-lawful, root-lawful, rooted-lawful, sum-lawful, difference-lawful, smaller-lawful, pick-lawful}
 
 -- less than the limits, so that later ones may be wider
@@ -23,7 +23,7 @@ pub record Sound (s : Shell) : Type 0 where
   pub stout : s .length ≤ 50 * s .radius
 
 -- a shell within the limits of document 01 is sound
-pub sound : (s : Shell) → Within s → Sound s
+pub sound : (s : Shell) → InLimits s → Sound s
 sound s w =
     record {
       radius = omega arith;
@@ -52,9 +52,9 @@ abbrev pos-modulus : (s : Shell) → Sound s → 0 < s .modulus
 pos-modulus s ok = omega arith
 
 -- each slenderness is a number
-pub axial-lawful : (s : Shell) → Sound s → Lawful (axialS s)
+pub axial-lawful : (s : Shell) → Sound s → Lawful (axialCut s)
 axial-lawful s ok =
-    pick-lawful (axialShort s) (axialShortS s) (axialLongS s)
+    pick-lawful (axialIsShort s) (axialShortCut s) (axialLongCut s)
     (root-lawful 2 _ (omega arith)
     (fraction-lawful _ _ (mul-pos load (omega (arith, one-le-pow 2 (s .length) (ok .length))))))
     (root-lawful 2 _ (omega arith)
@@ -67,9 +67,9 @@ axial-lawful s ok =
     load : 0 < 121 * s .modulus * s .wall
     load = mul-pos (mul-pos {m = 121} (lit< tt) (pos-modulus s ok)) (ok .wall)
 
-pub ring-lawful : (s : Shell) → Sound s → Lawful (ringS s)
+pub ring-lawful : (s : Shell) → Sound s → Lawful (ringCut s)
 ring-lawful s ok =
-    pick-lawful (ringShort s) (ringShortS s) (ringLongS s)
+    pick-lawful (ringIsShort s) (ringShortCut s) (ringLongCut s)
     (rooted-lawful (23 * ringEdges (s .edges) * s .modulus * s .wall) (20000 * s .length * s .«yield_stress») (s .wall) (200 * s .radius)
     (mul-pos (mul-pos (mul-pos {m = 23} (lit< tt) (le-trans (lit< tt) (edges-four (eqb (s .edges) 11) (eqb (s .edges) 12)))) (pos-modulus s ok)) (ok .wall)) (ok .wall))
     (root-lawful 2 _ (omega arith)
@@ -77,9 +77,9 @@ ring-lawful s ok =
     (mul-pos (pos-modulus s ok)
     (omega (arith, mul-pos (mul-pos {m = 44} (lit< tt) (one-le-pow 2 (s .wall) (ok .wall))) (one-le-pow 4 (s .length) (ok .length)))))))
 
-pub shear-lawful : (s : Shell) → Sound s → Lawful (shearS s)
+pub shear-lawful : (s : Shell) → Sound s → Lawful (shearCut s)
 shear-lawful s ok =
-    pick-lawful (shearShort s) (shearShortS s) (shearLongS s)
+    pick-lawful (shearIsShort s) (shearShortCut s) (shearLongCut s)
     (root-lawful 4 _ (omega arith)
     (sum-lawful _ _ _ _ _
     (mul-pos (mul-pos (mul-pos {m = 25600000000} (lit< tt) (one-le-pow 4 (s .length) (ok .length))) (ok .radius)) (one-le-pow 2 (s .«yield_stress») (ok .yield)))

@@ -47,13 +47,13 @@ genuine S c same law =
     go f pos false e = inl (same .reaches (f .num) (f .den) ∙ reaches-over c law (f .num) (f .den) pos e)
 
 pub axial-genuine : (s : Shell) → Sound s → Genuine (axialS s)
-axial-genuine s ok = genuine (axialS s) (WholeIdeal.axialS s) (axial-agree s ok) (axial-lawful s ok)
+axial-genuine s ok = genuine (axialS s) (WholeIdeal.axialCut s) (axial-agree s ok) (axial-lawful s ok)
 
 pub ring-genuine : (s : Shell) → Sound s → Genuine (ringS s)
-ring-genuine s ok = genuine (ringS s) (WholeIdeal.ringS s) (ring-agree s ok) (ring-lawful s ok)
+ring-genuine s ok = genuine (ringS s) (WholeIdeal.ringCut s) (ring-agree s ok) (ring-lawful s ok)
 
 pub shear-genuine : (s : Shell) → Sound s → Genuine (shearS s)
-shear-genuine s ok = genuine (shearS s) (WholeIdeal.shearS s) (shear-agree s ok) (shear-lawful s ok)
+shear-genuine s ok = genuine (shearS s) (WholeIdeal.shearCut s) (shear-agree s ok) (shear-lawful s ok)
 
 -- above 0, and so no difference in a curve is cut off
 abbrev Positive : Fraction → Type 0

@@ -9,7 +9,7 @@ use lib.Dec.{leb, lit≤, lit<}
 use borrow.Author.Tests.{leb-true, le-leb}
 use Rattle.algebra.specs.Bisection.{bisect, Edge, Downward}
 use Rattle.algebra.proofs.Bisection.{bisect-edge, edge-unique}
-use Rattle.cylinder.specs.Number.{pick}
+use Rattle.algebra.specs.Choice.{pick}
 use Rattle.cylinder.specs.Cut.{Cut}
 use Rattle.cylinder.specs.WholeTerm.{Term, formula}
 use Rattle.cylinder.specs.Search.{grid, place, most}

@@ -10,8 +10,8 @@ pub record Cut : Type 0 where
   pub within : ℕ → ℕ → Bool
 
 -- the same as a number
-abbrev pub number : Cut → Number
-number c = record { reaches = λ f. c .reaches (f .num) (f .den); within = λ f. c .within (f .num) (f .den) }
+abbrev pub asNumber : Cut → Number
+asNumber c = record { reaches = λ f. c .reaches (f .num) (f .den); within = λ f. c .within (f .num) (f .den) }
 
 -- the fraction a/b
 abbrev pub fraction : ℕ → ℕ → Cut

@@ -3,7 +3,8 @@ use mathlib.Core.Bool.{Bool}
 use lib.Dec.{eqb}
 use Rattle.cylinder.specs.declared.Shell.{Shell}
 use Rattle.cylinder.specs.Fraction.{Fraction, _//_, whole, tenths, hundredths, thousandths, _⊕_, _⊗_, _⊘_, _↑_, _atMost_}
-use Rattle.cylinder.specs.Number.{Number, exactly, timesRoot, plusRoot, minusRoot, scaled, larger, pick}
+use Rattle.cylinder.specs.Number.{Number, exactly, timesRoot, plusRoot, minusRoot, scaled, larger}
+use Rattle.algebra.specs.Choice.{pick}
 
 -- r, t, l in mm (the shell's wall is in 200ths of a mm), E and fy in N/mm²
 abbrev pub r : Shell → Fraction

@@ -1,10 +1,10 @@
--- To be believed, beside document 01: Fraction, Number, Ideal, Resistance, Sum, Within, Trial.
+-- To be believed, beside document 01: Fraction, Number, Ideal, Resistance, Sum, InLimits, Trial.
 pub mod Fraction
 pub mod Number
 pub mod Ideal
 pub mod Resistance
 pub mod Sum
-pub mod Within
+pub mod InLimits
 pub mod Trial
 -- Nobody has to believe these, since proofs/ says what they give: the same in whole numbers, to compute with.
 pub mod Cut

@@ -1,5 +1,5 @@
 -- A number that need not be a fraction is known by the fractions that it reaches (is at least) and those that it is within (is at most).
-use mathlib.Core.Bool.{Bool, true, false, _&&_, _||_}
+use mathlib.Core.Bool.{Bool, _&&_, _||_}
 use Rattle.cylinder.specs.Fraction.{Fraction, _⊖_, _⊗_, _⊘_, _↑_, _atMost_}
 
 pub record Number : Type 0 where
@@ -37,8 +37,3 @@ scaled f a = record { reaches = λ x. a .reaches (x ⊘ f); within = λ x. a .wi
 -- the larger of two numbers
 abbrev pub larger : Number → Number → Number
 larger a b = record { reaches = λ x. a .reaches x || b .reaches x; within = λ x. a .within x && b .within x }
-
--- a where the test is true, b where it is false
-abbrev pub pick : {A : Type 0} → Bool → A → A → A
-pick true a b = a
-pick false a b = b

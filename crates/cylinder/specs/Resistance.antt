@@ -4,7 +4,8 @@ use Prim.Native.Nat.{max}
 use mathlib.Core.Bool.{Bool}
 use Rattle.cylinder.specs.declared.Shell.{Shell}
 use Rattle.cylinder.specs.Fraction.{Fraction, whole, tenths, hundredths, thousandths, _⊕_, _⊖_, _⊗_, _⊘_, _↑_}
-use Rattle.cylinder.specs.Number.{Number, pick}
+use Rattle.cylinder.specs.Number.{Number}
+use Rattle.algebra.specs.Choice.{pick}
 use Rattle.cylinder.specs.Ideal.{fy, axialStress, ringStress, shearSquare}
 
 -- ---- slenderness, element 202

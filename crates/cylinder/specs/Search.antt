@@ -6,9 +6,9 @@ use lib.Dec.{leb}
 use Rattle.algebra.specs.Bisection.{bisect}
 use Rattle.cylinder.specs.declared.Shell.{Shell}
 use Rattle.cylinder.specs.Fraction.{Fraction}
-use Rattle.cylinder.specs.Number.{pick}
+use Rattle.algebra.specs.Choice.{pick}
 use Rattle.cylinder.specs.Cut.{Cut}
-use Rattle.cylinder.specs.WholeIdeal.{axialS, ringS, shearS}
+use Rattle.cylinder.specs.WholeIdeal.{axialCut, ringCut, shearCut}
 use Rattle.cylinder.specs.WholeTerm.{Term, formula}
 use Rattle.cylinder.specs.WholeStress.{axialTerm, ringTerm, shearTerm}
 
@@ -44,7 +44,7 @@ bounds (suc x) s t = let q : ℕ = grid s in around (most t (place s q) q)
 unfoldable pub judge : Shell → Fraction → Fraction → Fraction → Pair
 unfolding bounds
 judge s σx σφ τ =
-    let a : Pair = bounds (σx .num) (axialS s) (axialTerm s σx) in
-    let r : Pair = bounds (σφ .num) (ringS s) (ringTerm s σφ) in
-    let h : Pair = bounds (τ .num) (shearS s) (shearTerm s τ) in
+    let a : Pair = bounds (σx .num) (axialCut s) (axialTerm s σx) in
+    let r : Pair = bounds (σφ .num) (ringCut s) (ringTerm s σφ) in
+    let h : Pair = bounds (τ .num) (shearCut s) (shearTerm s τ) in
     record { low = min 20000 ((a .low + r .low + h .low) / 100); high = min 20000 ((a .high + r .high + h .high + 99) / 100) }

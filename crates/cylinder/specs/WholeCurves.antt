@@ -2,7 +2,7 @@
 -- Nobody has to believe these forms: proofs/Curves.antt has that they are those curves.
 use Prim.Native.Nat.{ℕ, _-_}
 use mathlib.Core.Bool.{Bool, true, false}
-use Rattle.cylinder.specs.Number.{pick}
+use Rattle.algebra.specs.Choice.{pick}
 use Rattle.cylinder.specs.Cut.{Cut}
 use Rattle.cylinder.specs.Factor.{Factor, constant, falling, inverse, divided, times}
 
@@ -36,9 +36,9 @@ reduction2 quadratic = inverse 2 20 100
 abbrev pub long : Cut → Bool
 long s = s .reaches 15 10
 
-abbrev pub tolerance : Bool → ℕ → Factor
-tolerance false e = falling 3000 e 3000
-tolerance true e = constant (2000 - e) 2000
+abbrev pub toleranceFactor : Bool → ℕ → Factor
+toleranceFactor false e = falling 3000 e 3000
+toleranceFactor true e = constant (2000 - e) 2000
 
 -- 11/10 over the partial factor for axial stress
 abbrev pub safety : Bool → Bool → Factor
@@ -47,7 +47,7 @@ safety false true = constant 22 29
 safety false false = divided 6682 1272 7000
 
 abbrev pub factor1 : Cut → ℕ → Factor
-factor1 s e = times (reduction1 (part1 s)) (tolerance (long s) e)
+factor1 s e = times (reduction1 (part1 s)) (toleranceFactor (long s) e)
 
 abbrev pub factor2 : Cut → ℕ → Factor
-factor2 s e = times (times (reduction2 (part2 s)) (tolerance (long s) e)) (safety (s .within 25 100) (s .reaches 2 1))
+factor2 s e = times (times (reduction2 (part2 s)) (toleranceFactor (long s) e)) (safety (s .within 25 100) (s .reaches 2 1))

@@ -4,7 +4,7 @@ use Prim.Native.Nat.{ℕ, _+_, _*_, _^_}
 use mathlib.Core.Bool.{Bool}
 use lib.Dec.{leb, eqb}
 use Rattle.cylinder.specs.Cut.{Cut, fraction, rootOf, overSum, overDifference, smaller, rootAtMost, rootAtLeast}
-use Rattle.cylinder.specs.Number.{pick}
+use Rattle.algebra.specs.Choice.{pick}
 use Rattle.cylinder.specs.declared.Shell.{Shell}
 
 -- η of table 1
@@ -15,18 +15,18 @@ eta edges = pick (eqb edges 11) 6 (pick (eqb edges 12) 3 1)
 abbrev pub ringEdges : ℕ → ℕ
 ringEdges edges = pick (eqb edges 11) 6 (pick (eqb edges 12) 5 4)
 
-abbrev pub axialShort : Shell → Bool
-axialShort s = leb (s .length ^ 2 * s .wall) (50 * s .radius ^ 3)
+abbrev pub axialIsShort : Shell → Bool
+axialIsShort s = leb (s .length ^ 2 * s .wall) (50 * s .radius ^ 3)
 
-abbrev pub ringShort : Shell → Bool
-ringShort s = leb (800 * s .length ^ 2 * s .wall) (26569 * ringEdges (s .edges) ^ 2 * s .radius ^ 3)
+abbrev pub ringIsShort : Shell → Bool
+ringIsShort s = leb (800 * s .length ^ 2 * s .wall) (26569 * ringEdges (s .edges) ^ 2 * s .radius ^ 3)
 
-abbrev pub shearShort : Shell → Bool
-shearShort s = leb (s .length ^ 2 * s .wall) (15138 * s .radius ^ 3)
+abbrev pub shearIsShort : Shell → Bool
+shearIsShort s = leb (s .length ^ 2 * s .wall) (15138 * s .radius ^ 3)
 
 -- S² is fy over the ideal stress
-abbrev pub axialShortS : Shell → Cut
-axialShortS s =
+abbrev pub axialShortCut : Shell → Cut
+axialShortCut s =
     rootOf 2
     (fraction (16000000 * s .radius * s .length ^ 2 * s .«yield_stress»)
     (121 * s .modulus * s .wall * (400 * s .length ^ 2 + 3 * s .radius * s .wall)))
@@ -40,14 +40,14 @@ axialBent s =
 abbrev pub axialFloor : Shell → Cut
 axialFloor s = fraction (400000 * s .radius * s .«yield_stress») (6 * (121 * s .modulus * s .wall))
 
-abbrev pub axialLongS : Shell → Cut
-axialLongS s = rootOf 2 (smaller (axialBent s) (axialFloor s))
+abbrev pub axialLongCut : Shell → Cut
+axialLongCut s = rootOf 2 (smaller (axialBent s) (axialFloor s))
 
-abbrev pub axialS : Shell → Cut
-axialS s = pick (axialShort s) (axialShortS s) (axialLongS s)
+abbrev pub axialCut : Shell → Cut
+axialCut s = pick (axialIsShort s) (axialShortCut s) (axialLongCut s)
 
-abbrev pub ringShortS : Shell → Cut
-ringShortS s =
+abbrev pub ringShortCut : Shell → Cut
+ringShortCut s =
     let stress : ℕ = 23 * ringEdges (s .edges) * s .modulus * s .wall in
     let per : ℕ = 20000 * s .length * s .«yield_stress» in
     record {
@@ -55,24 +55,24 @@ ringShortS s =
       within = λ p q. rootAtLeast (stress * p ^ 2) (s .wall) (200 * s .radius) (per * q ^ 2);
     }
 
-abbrev pub ringLongS : Shell → Cut
-ringLongS s =
+abbrev pub ringLongCut : Shell → Cut
+ringLongCut s =
     rootOf 2
     (fraction (6400000 * s .radius ^ 2 * s .length ^ 4 * s .«yield_stress»)
     (s .modulus * (44 * s .wall ^ 2 * s .length ^ 4 + 50750 * ringEdges (s .edges) ^ 4 * s .radius ^ 6)))
 
-abbrev pub ringS : Shell → Cut
-ringS s = pick (ringShort s) (ringShortS s) (ringLongS s)
+abbrev pub ringCut : Shell → Cut
+ringCut s = pick (ringIsShort s) (ringShortCut s) (ringLongCut s)
 
 -- S⁴ is fy² over three times the ideal stress's square
-abbrev pub shearShortS : Shell → Cut
-shearShortS s =
+abbrev pub shearShortCut : Shell → Cut
+shearShortCut s =
     rootOf 4
     (overSum (25600000000 * s .length ^ 4 * s .radius * s .«yield_stress» ^ 2) (1134 * s .modulus ^ 2 * s .wall ^ 4 * s .radius)
     (1080000 * s .modulus ^ 2 * s .length ^ 3 * s .wall ^ 2) (s .wall) (200 * s .radius))
 
-abbrev pub shearLongS : Shell → Cut
-shearLongS s = rootOf 4 (fraction (128000000 * s .radius ^ 3 * s .«yield_stress» ^ 2) (3 * s .modulus ^ 2 * s .wall ^ 3))
+abbrev pub shearLongCut : Shell → Cut
+shearLongCut s = rootOf 4 (fraction (128000000 * s .radius ^ 3 * s .«yield_stress» ^ 2) (3 * s .modulus ^ 2 * s .wall ^ 3))
 
-abbrev pub shearS : Shell → Cut
-shearS s = pick (shearShort s) (shearShortS s) (shearLongS s)
+abbrev pub shearCut : Shell → Cut
+shearCut s = pick (shearIsShort s) (shearShortCut s) (shearLongCut s)

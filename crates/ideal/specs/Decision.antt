@@ -3,17 +3,17 @@ use mathlib.Core.Bool.{Bool}
 use Rattle.wide.specs.declared.Order.{Order}
 use Rattle.wide.specs.declared.Order.the-variants.{Less, Equal, Greater}
 use Rattle.cylinder.specs.declared.Shell.{Shell}
-use Rattle.cylinder.specs.Number.{pick}
+use Rattle.algebra.specs.Choice.{pick}
 use Rattle.cylinder.specs.Cut.{Cut}
-use Rattle.cylinder.specs.WholeIdeal.{axialShortS, axialLongS, ringShortS, ringLongS, shearShortS, shearLongS}
+use Rattle.cylinder.specs.WholeIdeal.{axialShortCut, axialLongCut, ringShortCut, ringLongCut, shearShortCut, shearLongCut}
 use Rattle.cylinder.specs.declared.Stress.{Stress}
 use Rattle.cylinder.specs.declared.Stress.the-variants.{Axial, Ring, Shear}
 
 -- the related slenderness for a stress, on its short branch or not
 abbrev pub cutOf : Stress → Bool → Shell → Cut
-cutOf Axial short s = pick short (axialShortS s) (axialLongS s)
-cutOf Ring short s = pick short (ringShortS s) (ringLongS s)
-cutOf Shear short s = pick short (shearShortS s) (shearLongS s)
+cutOf Axial short s = pick short (axialShortCut s) (axialLongCut s)
+cutOf Ring short s = pick short (ringShortCut s) (ringLongCut s)
+cutOf Shear short s = pick short (shearShortCut s) (shearLongCut s)
 
 -- the later of two answers
 abbrev pub laterOf : Order → Order → Order

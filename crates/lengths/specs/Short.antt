@@ -1,12 +1,12 @@
 -- Whether a cylinder is short, by the stress.
 use mathlib.Core.Bool.{Bool}
 use Rattle.cylinder.specs.declared.Shell.{Shell}
-use Rattle.cylinder.specs.WholeIdeal.{axialShort, ringShort, shearShort}
+use Rattle.cylinder.specs.WholeIdeal.{axialIsShort, ringIsShort, shearIsShort}
 use Rattle.cylinder.specs.declared.Stress.{Stress}
 use Rattle.cylinder.specs.declared.Stress.the-variants.{Axial, Ring, Shear}
 
 -- whether the cylinder is short for a stress
 abbrev pub shortOf : Stress → Shell → Bool
-shortOf Axial s = axialShort s
-shortOf Ring s = ringShort s
-shortOf Shear s = shearShort s
+shortOf Axial s = axialIsShort s
+shortOf Ring s = ringIsShort s
+shortOf Shear s = shearIsShort s

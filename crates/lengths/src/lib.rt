@@ -1,8 +1,8 @@
 // The edges' factors of tables 1 and 2, and the length tests: whether a cylinder is short for a stress, decided exactly.
 ghost use mathlib.Core.Path.{_≡_};
 ghost use Prim.Native.Nat.{_≤_};
-ghost use Rattle.cylinder.specs.Within.{Within};
-ghost use Rattle.cylinder.specs.WholeIdeal.{eta as etaOf, ringEdges, axialShort, ringShort, shearShort};
+ghost use Rattle.cylinder.specs.InLimits.{InLimits};
+ghost use Rattle.cylinder.specs.WholeIdeal.{eta as etaOf, ringEdges, axialIsShort, ringIsShort, shearIsShort};
 ghost use Rattle.lengths.specs.Short.{shortOf};
 use cylinder::Shell;
 use cylinder::Stress;
@@ -35,8 +35,8 @@ pub fn ring_edges(edges: u64) -> u64
 
 // Whether the cylinder is short for axial stress.
 fn axial_short(s: Shell) -> bool
-    requires { ⌜ Within s ⌝ }
-    ensures { λ r. ⌜ r ≡ axialShort s ⌝ }
+    requires { ⌜ InLimits s ⌝ }
+    ensures { λ r. ⌜ r ≡ axialIsShort s ⌝ }
 {
     let l = s.length;
     let r = s.radius;
@@ -45,8 +45,8 @@ fn axial_short(s: Shell) -> bool
 
 // Whether the cylinder is short for ring stress: for a radius from 11,500 on it always is.
 fn ring_short(s: Shell) -> bool
-    requires { ⌜ Within s ⌝ }
-    ensures { λ r. ⌜ r ≡ ringShort s ⌝ }
+    requires { ⌜ InLimits s ⌝ }
+    ensures { λ r. ⌜ r ≡ ringIsShort s ⌝ }
 {
     let l = s.length;
     let r = s.radius;
@@ -59,8 +59,8 @@ fn ring_short(s: Shell) -> bool
 
 // Whether the cylinder is short for shear.
 fn shear_short(s: Shell) -> bool
-    requires { ⌜ Within s ⌝ }
-    ensures { λ r. ⌜ r ≡ shearShort s ⌝ }
+    requires { ⌜ InLimits s ⌝ }
+    ensures { λ r. ⌜ r ≡ shearIsShort s ⌝ }
 {
     let l = s.length;
     let r = s.radius;
@@ -69,7 +69,7 @@ fn shear_short(s: Shell) -> bool
 
 // Whether the cylinder is short for a stress.
 pub fn is_short(kind: Stress, s: Shell) -> bool
-    requires { ⌜ Within s ⌝ }
+    requires { ⌜ InLimits s ⌝ }
     ensures { λ r. ⌜ r ≡ shortOf kind s ⌝ }
 {
     match kind {

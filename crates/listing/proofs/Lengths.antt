@@ -5,7 +5,8 @@ use Prim.Native.Nat.{ℕ, _+_, _≤_, _<_}
 use native.Mathlib.Omega.{arith}
 use mathlib.Core.List.{List, [], _∷_, _++_}
 use lib.ListN.{length, length-append}
-use Rattle.text.specs.Bytes.{decimal, pick}
+use Rattle.text.specs.Bytes.{decimal}
+use Rattle.algebra.specs.Choice.{pick}
 use Rattle.text.proofs.Laws.{Wrote}
 use Rattle.answer.specs.declared.Answer.{Answer}
 use Rattle.answer.specs.declared.Answer.the-variants.{Refused, Holds, Fails, Open}

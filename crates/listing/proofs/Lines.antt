@@ -9,7 +9,8 @@ use mathlib.Core.List.{List, [], _∷_, _++_, append-assoc}
 use lib.ListN.{length, getD}
 use lib.Dec.{ltb, eqb}
 use borrow.Author.Tests.{ne-eqb}
-use Rattle.text.specs.Bytes.{ascii, pick, digits, decimal, isNewline, onFirst, lines}
+use Rattle.text.specs.Bytes.{ascii, digits, decimal, isNewline, onFirst, lines}
+use Rattle.algebra.specs.Choice.{pick}
 use Rattle.answer.specs.declared.Answer.{Answer}
 use Rattle.answer.specs.declared.Answer.the-variants.{Refused, Holds, Fails, Open}
 use Rattle.listing.specs.declared.Counts.{Counts}

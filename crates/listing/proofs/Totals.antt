@@ -7,7 +7,8 @@ use mathlib.Core.Bool.{Bool, true, false}
 use mathlib.Core.List.{List, [], _∷_, _++_, map}
 use lib.ListN.{length, length-append, length-map}
 use lib.Dec.{lit≤}
-use Rattle.text.specs.Bytes.{pick, decimal}
+use Rattle.text.specs.Bytes.{decimal}
+use Rattle.algebra.specs.Choice.{pick}
 use Rattle.text.proofs.Laws.{decimal-length}
 use Rattle.answer.specs.declared.Answer.{Answer}
 use Rattle.answer.specs.declared.Answer.the-variants.{Refused, Holds, Fails, Open}

@@ -3,7 +3,8 @@ use Prim.Native.Nat.{ℕ, _+_}
 use mathlib.Core.Bool.{Bool, true, false}
 use mathlib.Core.List.{List, [], _∷_, _++_}
 use lib.ListN.{length}
-use Rattle.text.specs.Bytes.{ascii, pick, decimal}
+use Rattle.text.specs.Bytes.{ascii, decimal}
+use Rattle.algebra.specs.Choice.{pick}
 use Rattle.answer.specs.declared.Answer.{Answer}
 use Rattle.answer.specs.declared.Answer.the-variants.{Refused, Holds, Fails, Open}
 use Rattle.listing.specs.declared.Counts.{Counts}

@@ -9,7 +9,8 @@ use lib.ListN.{length, length-map}
 use lib.Dec.{ltb}
 use borrow.Author.Tests.{ltb-false}
 use mathlib.Core.Bool.{Bool, true, false}
-use Rattle.text.specs.Bytes.{pick, put, upTo, after, isNewline, lines}
+use Rattle.text.specs.Bytes.{put, upTo, after, isNewline, lines}
+use Rattle.algebra.specs.Choice.{pick}
 use Rattle.text.proofs.Laws.{put-all, Wrote, lines-nil, lines-cons}
 use Rattle.answer.specs.declared.Answer.{Answer}
 use Rattle.answer.specs.declared.Answer.the-variants.{Refused}

@@ -3,7 +3,8 @@ use Prim.Native.Nat.{ℕ, _+_, _*_, _≤_}
 use mathlib.Core.List.{List, _++_, map}
 use lib.ListN.{length, drop}
 use lib.Dec.{ltb}
-use Rattle.text.specs.Bytes.{pick, lines}
+use Rattle.text.specs.Bytes.{lines}
+use Rattle.algebra.specs.Choice.{pick}
 use Rattle.answer.specs.declared.Answer.{Answer}
 use Rattle.reading.specs.Reading.{answerTo}
 use Rattle.listing.specs.declared.Counts.{Counts}

@@ -5,14 +5,14 @@ use native.Mathlib.Nat.{mul-pos, one-le-pow}
 use native.Mathlib.Omega.{arith}
 use lib.Dec.{eqb, lit<}
 use Rattle.cylinder.specs.declared.Shell.{Shell}
-use Rattle.cylinder.specs.Within.{Within}
+use Rattle.cylinder.specs.InLimits.{InLimits}
 use Rattle.cylinder.specs.Cut.{rootOf}
-use Rattle.cylinder.specs.WholeIdeal.{axialBent, axialFloor, shearShortS}
+use Rattle.cylinder.specs.WholeIdeal.{axialBent, axialFloor, shearShortCut}
 use Rattle.cylinder.proofs.Lawful.{Lawful, fraction-lawful, root-lawful, sum-lawful, difference-lawful, pick-lawful}
 use Rattle.cylinder.proofs.Limits.{eta-pos}
 use Rattle.reach.specs.Highest.{curvedOf}
 
-module _ (s : Shell) (ok : Within s) where
+module _ (s : Shell) (ok : InLimits s) where
   radius-pos : 0 < s .radius
   radius-pos = omega arith
 
@@ -38,7 +38,7 @@ module _ (s : Shell) (ok : Within s) where
       (mul-pos (mul-pos (mul-pos {m = 400000} (lit< tt) (eta-pos (eqb (s .edges) 11) (eqb (s .edges) 12))) (one-le-pow 2 (s .radius) radius-pos)) yield-pos)
       (mul-pos {m = 200} (lit< tt) radius-pos))
 
-  shear-lawful : Lawful (shearShortS s)
+  shear-lawful : Lawful (shearShortCut s)
   shear-lawful =
       root-lawful 4 _ (omega arith)
       (sum-lawful _ _ _ _ _
@@ -47,4 +47,4 @@ module _ (s : Shell) (ok : Within s) where
       wall-pos (mul-pos {m = 200} (lit< tt) radius-pos))
 
   pub curved-lawful : (shear : Bool) → Lawful (curvedOf shear s)
-  curved-lawful shear = pick-lawful shear (shearShortS s) (rootOf 2 (axialBent s)) shear-lawful bent-lawful
+  curved-lawful shear = pick-lawful shear (shearShortCut s) (rootOf 2 (axialBent s)) shear-lawful bent-lawful

@@ -9,7 +9,7 @@ use Rattle.algebra.proofs.Ring.{ring, quoted}
 use Rattle.wide.specs.Value.{base}
 use Rattle.cylinder.specs.declared.Shell.{Shell}
 use Rattle.cylinder.specs.Cut.{rootOf}
-use Rattle.cylinder.specs.WholeIdeal.{ringEdges, axialShortS, axialFloor, ringShortS, ringLongS, shearLongS}
+use Rattle.cylinder.specs.WholeIdeal.{ringEdges, axialShortCut, axialFloor, ringShortCut, ringLongCut, shearLongCut}
 use Rattle.roots.specs.Largest.{largest}
 use Rattle.ideal.proofs.Rows.{axial-floor-right, ring-short-right, shear-long-right}
 use Rattle.reach.specs.Highest.{Highest}
@@ -44,9 +44,9 @@ shear-long-x E w = ring (E ∷ w ∷ []) (search quoted depth 60 fits 100000) re
 module _ (s : Shell) (q cap : ℕ) (small : cap < base) where
   pub axial-short-row : {k x y : ℕ} → k ≡ largest 2 cap x y
       → x ≡ prod (48400 ∷ s .modulus ∷ s .wall ∷ s .length ∷ s .length ∷ []) + prod (363 ∷ s .modulus ∷ s .wall ∷ s .wall ∷ s .radius ∷ [])
-      → y ≡ prod (16000000 ∷ s .radius ∷ s .length ∷ s .length ∷ s .«yield_stress» ∷ q ∷ q ∷ []) → Highest (axialShortS s) q cap k
+      → y ≡ prod (16000000 ∷ s .radius ∷ s .length ∷ s .length ∷ s .«yield_stress» ∷ q ∷ q ∷ []) → Highest (axialShortCut s) q cap k
   axial-short-row is x y =
-      by-root (axialShortS s) q cap 2 _ _ (lit< tt) small (λ k. refl) is (x ∙ axial-short-x (s .modulus) (s .wall) (s .radius) (s .length))
+      by-root (axialShortCut s) q cap 2 _ _ (lit< tt) small (λ k. refl) is (x ∙ axial-short-x (s .modulus) (s .wall) (s .radius) (s .length))
       (y ∙ axial-short-y (s .radius) (s .length) (s .«yield_stress») q)
 
   pub axial-floor-row : {k x y : ℕ} → k ≡ largest 2 cap x y → x ≡ prod (726 ∷ s .modulus ∷ s .wall ∷ []) → y ≡ prod (400000 ∷ s .radius ∷ s .«yield_stress» ∷ q ∷ q ∷ [])
@@ -56,9 +56,9 @@ module _ (s : Shell) (q cap : ℕ) (small : cap < base) where
 
   pub ring-short-row : {c k x y : ℕ} → c ≡ ringEdges (s .edges) → k ≡ largest 4 cap x y
       → x ≡ prod (529 ∷ c ∷ c ∷ s .modulus ∷ s .modulus ∷ s .wall ∷ s .wall ∷ s .wall ∷ [])
-      → y ≡ prod (80000000000 ∷ s .radius ∷ s .length ∷ s .length ∷ s .«yield_stress» ∷ s .«yield_stress» ∷ q ∷ q ∷ q ∷ q ∷ []) → Highest (ringShortS s) q cap k
+      → y ≡ prod (80000000000 ∷ s .radius ∷ s .length ∷ s .length ∷ s .«yield_stress» ∷ s .«yield_stress» ∷ q ∷ q ∷ q ∷ q ∷ []) → Highest (ringShortCut s) q cap k
   ring-short-row h is x y =
-      by-root (ringShortS s) q cap 4 (prod (529 ∷ ringEdges (s .edges) ∷ ringEdges (s .edges) ∷ s .modulus ∷ s .modulus ∷ s .wall ∷ s .wall ∷ s .wall ∷ []))
+      by-root (ringShortCut s) q cap 4 (prod (529 ∷ ringEdges (s .edges) ∷ ringEdges (s .edges) ∷ s .modulus ∷ s .modulus ∷ s .wall ∷ s .wall ∷ s .wall ∷ []))
       ((20000 * s .length * s .«yield_stress» * q ^ 2) ^ 2 * (200 * s .radius)) (lit< tt) small
       (λ k. ap (λ (z : ℕ). leb z ((20000 * s .length * s .«yield_stress» * q ^ 2) ^ 2 * (200 * s .radius))) (ring-short-x (ringEdges (s .edges)) (s .modulus) (s .wall) k)) is
       (x ∙ rw h) (y ∙ ring-short-right (s .radius) (s .length) (s .«yield_stress») q)
@@ -66,12 +66,12 @@ module _ (s : Shell) (q cap : ℕ) (small : cap < base) where
   pub ring-long-row : {c k x y : ℕ} → c ≡ ringEdges (s .edges) → k ≡ largest 2 cap x y
       → x ≡ prod (44 ∷ s .modulus ∷ s .wall ∷ s .wall ∷ s .length ∷ s .length ∷ s .length ∷ s .length ∷ [])
       + prod (50750 ∷ s .modulus ∷ c ∷ c ∷ c ∷ c ∷ s .radius ∷ s .radius ∷ s .radius ∷ s .radius ∷ s .radius ∷ s .radius ∷ [])
-      → y ≡ prod (6400000 ∷ s .radius ∷ s .radius ∷ s .length ∷ s .length ∷ s .length ∷ s .length ∷ s .«yield_stress» ∷ q ∷ q ∷ []) → Highest (ringLongS s) q cap k
+      → y ≡ prod (6400000 ∷ s .radius ∷ s .radius ∷ s .length ∷ s .length ∷ s .length ∷ s .length ∷ s .«yield_stress» ∷ q ∷ q ∷ []) → Highest (ringLongCut s) q cap k
   ring-long-row {c} h is x y =
-      by-root (ringLongS s) q cap 2 _ _ (lit< tt) small (λ k. refl) is (x ∙ ring-long-x (s .modulus) (s .wall) (s .length) c (s .radius) ∙ rw h)
+      by-root (ringLongCut s) q cap 2 _ _ (lit< tt) small (λ k. refl) is (x ∙ ring-long-x (s .modulus) (s .wall) (s .length) c (s .radius) ∙ rw h)
       (y ∙ ring-long-y (s .radius) (s .length) (s .«yield_stress») q)
 
   pub shear-long-row : {k x y : ℕ} → k ≡ largest 4 cap x y → x ≡ prod (3 ∷ s .modulus ∷ s .modulus ∷ s .wall ∷ s .wall ∷ s .wall ∷ [])
-      → y ≡ prod (128000000 ∷ s .radius ∷ s .radius ∷ s .radius ∷ s .«yield_stress» ∷ s .«yield_stress» ∷ q ∷ q ∷ q ∷ q ∷ []) → Highest (shearLongS s) q cap k
+      → y ≡ prod (128000000 ∷ s .radius ∷ s .radius ∷ s .radius ∷ s .«yield_stress» ∷ s .«yield_stress» ∷ q ∷ q ∷ q ∷ q ∷ []) → Highest (shearLongCut s) q cap k
   shear-long-row is x y =
-      by-root (shearLongS s) q cap 4 _ _ (lit< tt) small (λ k. refl) is (x ∙ shear-long-x (s .modulus) (s .wall)) (y ∙ shear-long-right (s .radius) (s .«yield_stress») q)
+      by-root (shearLongCut s) q cap 4 _ _ (lit< tt) small (λ k. refl) is (x ∙ shear-long-x (s .modulus) (s .wall)) (y ∙ shear-long-right (s .radius) (s .«yield_stress») q)

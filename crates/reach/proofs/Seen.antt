@@ -12,7 +12,7 @@ use Rattle.order.proofs.Comparison.{order-less, order-greater}
 use Rattle.factors.specs.Product.{prod}
 use Rattle.cylinder.specs.declared.Shell.{Shell}
 use Rattle.cylinder.specs.Cut.{rootOf}
-use Rattle.cylinder.specs.WholeIdeal.{eta, axialBent, shearShortS}
+use Rattle.cylinder.specs.WholeIdeal.{eta, axialBent, shearShortCut}
 use Rattle.bent.proofs.Row.{axial-bent-row, axial-bent-low}
 use Rattle.sheared.proofs.Row.{shear-short-row}
 
@@ -49,11 +49,11 @@ module _ (s : Shell) (p q : ℕ) where
       prod (25600000000 ∷ s .radius ∷ s .length ∷ s .length ∷ s .length ∷ s .length ∷ s .«yield_stress» ∷ s .«yield_stress» ∷ q ∷ q ∷ q ∷ q ∷ [])
       - prod (1134 ∷ s .modulus ∷ s .modulus ∷ s .wall ∷ s .wall ∷ s .wall ∷ s .wall ∷ s .radius ∷ []) * (p * p * (p * p))
 
-  pub shear-reached : shearE ^ 2 * s .wall < shearD ^ 2 * (200 * s .radius) → true ≡ shearShortS s .reaches p q
+  pub shear-reached : shearE ^ 2 * s .wall < shearD ^ 2 * (200 * s .radius) → true ≡ shearShortCut s .reaches p q
   shear-reached h =
       shear-short-row s p q refl (shear-y (s .modulus) (s .wall) (s .radius) p) refl (shear-z (s .modulus) (s .wall) (s .length) p) (order-less _ _ h) .reaches
 
-  pub shear-missed : shearD ^ 2 * (200 * s .radius) < shearE ^ 2 * s .wall → false ≡ shearShortS s .reaches p q
+  pub shear-missed : shearD ^ 2 * (200 * s .radius) < shearE ^ 2 * s .wall → false ≡ shearShortCut s .reaches p q
   shear-missed h =
       shear-short-row s p q refl (shear-y (s .modulus) (s .wall) (s .radius) p) refl (shear-z (s .modulus) (s .wall) (s .length) p) (order-greater _ _ h) .reaches
 

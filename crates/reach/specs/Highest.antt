@@ -3,9 +3,9 @@ use mathlib.Core.Path.{_≡_}
 use mathlib.Core.Bool.{Bool, true, false}
 use Prim.Native.Nat.{ℕ, _+_, _≤_, _<_}
 use Rattle.cylinder.specs.declared.Shell.{Shell}
-use Rattle.cylinder.specs.Number.{pick}
+use Rattle.algebra.specs.Choice.{pick}
 use Rattle.cylinder.specs.Cut.{Cut, rootOf}
-use Rattle.cylinder.specs.WholeIdeal.{axialBent, shearShortS}
+use Rattle.cylinder.specs.WholeIdeal.{axialBent, shearShortCut}
 
 -- r is the largest k up to the cap such that c reaches k/q
 pub record Highest (c : Cut) (q cap r : ℕ) : Type 0 where
@@ -15,4 +15,4 @@ pub record Highest (c : Cut) (q cap r : ℕ) : Type 0 where
 
 -- the two branches whose ideal stress is a sum with a root: shear, short, and axial, long
 abbrev pub curvedOf : Bool → Shell → Cut
-curvedOf shear s = pick shear (shearShortS s) (rootOf 2 (axialBent s))
+curvedOf shear s = pick shear (shearShortCut s) (rootOf 2 (axialBent s))

@@ -5,8 +5,8 @@ ghost use mathlib.Core.Bool.{true};
 ghost use Prim.Native.Nat.{ℕ, _*_, _^_, _≤_, _<_};
 ghost use Rattle.wide.specs.Value.{base};
 ghost use Rattle.near.specs.Around.{Around};
-ghost use Rattle.cylinder.specs.Within.{Within};
-ghost use Rattle.cylinder.specs.WholeIdeal.{axialShortS, axialBent, axialFloor, axialLongS, ringShortS, ringLongS, shearShortS, shearLongS};
+ghost use Rattle.cylinder.specs.InLimits.{InLimits};
+ghost use Rattle.cylinder.specs.WholeIdeal.{axialShortCut, axialBent, axialFloor, axialLongCut, ringShortCut, ringLongCut, shearShortCut, shearLongCut};
 ghost use Rattle.cylinder.specs.Cut.{rootOf};
 ghost use Rattle.ideal.specs.Decision.{cutOf};
 ghost use Rattle.reach.specs.Highest.{Highest, curvedOf};
@@ -20,7 +20,7 @@ use near::Side;
 // Axial stress, short: the largest k up to the cap such that S reaches k/q.
 fn axial_short_highest(s: Shell, q: u64, cap: u64) -> u64
     requires { ⌜ cap < base ⌝ }
-    ensures { λ r. ⌜ Highest (axialShortS s) q cap r ⌝ }
+    ensures { λ r. ⌜ Highest (axialShortCut s) q cap r ⌝ }
 {
     let e = s.modulus;
     let w = s.wall;
@@ -45,7 +45,7 @@ fn axial_floor_highest(s: Shell, q: u64, cap: u64) -> u64
 // Ring stress, short.
 fn ring_short_highest(s: Shell, q: u64, cap: u64) -> u64
     requires { ⌜ cap < base ⌝ }
-    ensures { λ r. ⌜ Highest (ringShortS s) q cap r ⌝ }
+    ensures { λ r. ⌜ Highest (ringShortCut s) q cap r ⌝ }
 {
     let c = lengths::ring_edges(s.edges);
     let e = s.modulus;
@@ -60,7 +60,7 @@ fn ring_short_highest(s: Shell, q: u64, cap: u64) -> u64
 // Ring stress, long.
 fn ring_long_highest(s: Shell, q: u64, cap: u64) -> u64
     requires { ⌜ cap < base ⌝ }
-    ensures { λ r. ⌜ Highest (ringLongS s) q cap r ⌝ }
+    ensures { λ r. ⌜ Highest (ringLongCut s) q cap r ⌝ }
 {
     let c = lengths::ring_edges(s.edges);
     let e = s.modulus;
@@ -75,7 +75,7 @@ fn ring_long_highest(s: Shell, q: u64, cap: u64) -> u64
 // Shear, long.
 fn shear_long_highest(s: Shell, q: u64, cap: u64) -> u64
     requires { ⌜ cap < base ⌝ }
-    ensures { λ r. ⌜ Highest (shearLongS s) q cap r ⌝ }
+    ensures { λ r. ⌜ Highest (shearLongCut s) q cap r ⌝ }
 {
     let e = s.modulus;
     let w = s.wall;
@@ -138,8 +138,8 @@ fn squared(a: Near, x: u64) -> Near
 
 // Whether S reaches p/q for shear, short: e p⁴ √(w/(200 r)) is at most d q⁴ - c p⁴.
 fn shear_reaches(s: Shell, p: u64, q: u64, t: Terms) -> bool
-    requires { ⌜ (Within s) × (p < base) × Sheared s q t ⌝ }
-    ensures { λ r. ⌜ r ≡ shearShortS s .reaches p q ⌝ }
+    requires { ⌜ (InLimits s) × (p < base) × Sheared s q t ⌝ }
+    ensures { λ r. ⌜ r ≡ shearShortCut s .reaches p q ⌝ }
 {
     let x = near::of(p * p);
     let m = near::times(x, x);
@@ -156,7 +156,7 @@ fn shear_reaches(s: Shell, p: u64, q: u64, t: Terms) -> bool
 
 // Whether S reaches p/q for axial stress, long: c p² - d q² is at most e p² √(w/(200 r)).
 fn bent_reaches(s: Shell, p: u64, q: u64, t: Terms) -> bool
-    requires { ⌜ (Within s) × (p < base) × Bent s q t ⌝ }
+    requires { ⌜ (InLimits s) × (p < base) × Bent s q t ⌝ }
     ensures { λ r. ⌜ r ≡ rootOf 2 (axialBent s) .reaches p q ⌝ }
 {
     let m = near::of(p * p);
@@ -185,7 +185,7 @@ fn lifted(n: Near) -> Near {
 
 // A number near √(w/(200 r)) · 2^32.
 fn rough_root(s: Shell) -> u64
-    requires { ⌜ Within s ⌝ }
+    requires { ⌜ InLimits s ⌝ }
 {
     let x = settle::leading(near::of(200 * s.radius));
     let y = settle::leading(lifted(lifted(near::of(s.wall))));
@@ -194,7 +194,7 @@ fn rough_root(s: Shell) -> u64
 
 // A guess at S for shear, short: the fourth root of d q⁴/(c + e √(w/(200 r))).
 fn shear_guess(s: Shell, t: Terms) -> u64
-    requires { ⌜ Within s ⌝ }
+    requires { ⌜ InLimits s ⌝ }
 {
     let x = near::plus(lifted(t.c), near::times(t.e, near::of(rough_root(s))));
     guess::guess_from(
@@ -206,7 +206,7 @@ fn shear_guess(s: Shell, t: Terms) -> u64
 
 // A guess at S for axial stress, long: √(d q²/(c - e √(w/(200 r)))).
 fn bent_guess(s: Shell, t: Terms) -> u64
-    requires { ⌜ Within s ⌝ }
+    requires { ⌜ InLimits s ⌝ }
 {
     let x = near::minus(lifted(t.c), near::times(t.e, near::of(rough_root(s))));
     guess::guess_from(
@@ -218,7 +218,7 @@ fn bent_guess(s: Shell, t: Terms) -> u64
 
 // Whether S reaches p/q, for the two branches.
 fn curved_reaches(shear: bool, s: Shell, p: u64, q: u64, t: Terms) -> bool
-    requires { ⌜ (Within s) × (p < base) × TermsOf shear s q t ⌝ }
+    requires { ⌜ (InLimits s) × (p < base) × TermsOf shear s q t ⌝ }
     ensures { λ r. ⌜ r ≡ curvedOf shear s .reaches p q ⌝ }
 {
     if shear {
@@ -231,7 +231,7 @@ fn curved_reaches(shear: bool, s: Shell, p: u64, q: u64, t: Terms) -> bool
 // The same two branches: the largest k up to the cap such that S reaches k/q. It is asked at the wish, next to it, and in
 // steps that double; once both sides are known, in the middle.
 fn curved_highest(shear: bool, s: Shell, q: u64, cap: u64, near: u64, t: Terms) -> u64
-    requires { ⌜ (Within s) × (cap < base) × TermsOf shear s q t ⌝ }
+    requires { ⌜ (InLimits s) × (cap < base) × TermsOf shear s q t ⌝ }
     ensures { λ r. ⌜ Highest (curvedOf shear s) q cap r ⌝ }
 {
     let mut lo = 0;
@@ -254,8 +254,8 @@ fn curved_highest(shear: bool, s: Shell, q: u64, cap: u64, near: u64, t: Terms) 
 
 // Axial stress, long: the smaller of two numbers, so the second is looked for up to the first.
 fn axial_long_highest(s: Shell, q: u64, cap: u64) -> u64
-    requires { ⌜ (Within s) × (cap < base) × (0 < q) ⌝ }
-    ensures { λ r. ⌜ Highest (axialLongS s) q cap r ⌝ }
+    requires { ⌜ (InLimits s) × (cap < base) × (0 < q) ⌝ }
+    ensures { λ r. ⌜ Highest (axialLongCut s) q cap r ⌝ }
 {
     let k = axial_floor_highest(s, q, cap);
     let t = bent_terms(s, q);
@@ -264,8 +264,8 @@ fn axial_long_highest(s: Shell, q: u64, cap: u64) -> u64
 
 // Shear, short.
 fn shear_short_highest(s: Shell, q: u64, cap: u64) -> u64
-    requires { ⌜ (Within s) × (cap < base) ⌝ }
-    ensures { λ r. ⌜ Highest (shearShortS s) q cap r ⌝ }
+    requires { ⌜ (InLimits s) × (cap < base) ⌝ }
+    ensures { λ r. ⌜ Highest (shearShortCut s) q cap r ⌝ }
 {
     let t = shear_terms(s, q);
     curved_highest(true, s, q, cap, shear_guess(s, t), t)
@@ -273,7 +273,7 @@ fn shear_short_highest(s: Shell, q: u64, cap: u64) -> u64
 
 // The largest k up to the cap such that S reaches k/q.
 pub fn highest(kind: Stress, short: bool, s: Shell, q: u64, cap: u64) -> u64
-    requires { ⌜ (Within s) × (cap < base) × (0 < q) ⌝ }
+    requires { ⌜ (InLimits s) × (cap < base) × (0 < q) ⌝ }
     ensures { λ r. ⌜ Highest (cutOf kind short s) q cap r ⌝ }
 {
     match kind {

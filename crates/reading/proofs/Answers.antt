@@ -11,7 +11,7 @@ use lib.Dec.{ltb}
 use borrow.Author.Tests.{lt-ltb, le-ltb, ltb-true, ltb-false, ne-eqb}
 use native.Mathlib.Decide.{decLe}
 use native.Mathlib.Nat.{lt-of-not-le}
-use Rattle.text.specs.Bytes.{pick}
+use Rattle.algebra.specs.Choice.{pick}
 use Rattle.record.specs.declared.Record.{Record}
 use Rattle.answer.specs.declared.Answer.{Answer}
 use Rattle.answer.specs.declared.Answer.the-variants.{Refused}

@@ -10,12 +10,13 @@ use lib.ListN.{length, drop, getD, drop-of-length-le}
 use lib.Seq.{drop-append-seam, drop-cons}
 use lib.Dec.{eqb}
 use borrow.Author.Tests.{eqb-true, eq-eqb}
-use Rattle.text.specs.Bytes.{pick, decimal, upTo}
+use Rattle.text.specs.Bytes.{decimal, upTo}
+use Rattle.algebra.specs.Choice.{pick}
 use Rattle.text.proofs.Laws.{upTo-split}
 use Rattle.word.specs.Words.{endsWord}
 use Rattle.word.specs.Numbers.{numberOf}
-use Rattle.word.specs.declared.Number.{Number}
-use Rattle.word.specs.declared.Number.the-variants.{Value, Missing}
+use Rattle.word.specs.declared.Numeral.{Numeral}
+use Rattle.word.specs.declared.Numeral.the-variants.{Value, Missing}
 use Rattle.word.proofs.Decimal.{number-decimal, decimal-number, word-decimal}
 use Rattle.record.specs.declared.Record.{Record}
 use Rattle.reading.specs.declared.Form.{Form}
@@ -119,7 +120,7 @@ spelt-read (sep ∷ seps) v s c e = by-number (λ n q. spelt-read seps (v ++ (n 
         }
     by-test on n p false q r = absurd (let z : _≡_ {A = ℕ} 0 1 = cc in omega arith)
 
-    by-number : On → (o : Number) → numberOf (upTo endsWord s) ≡ o → onNumber o (λ n. pick (startsWith sep tail) (readFrom seps (v ++ (n ∷ [])) rest) Other) ≡ Read c → Spelt (sep ∷ seps) v s c
+    by-number : On → (o : Numeral) → numberOf (upTo endsWord s) ≡ o → onNumber o (λ n. pick (startsWith sep tail) (readFrom seps (v ++ (n ∷ [])) rest) Other) ≡ Read c → Spelt (sep ∷ seps) v s c
     by-number on Missing p q = absurd (let z : _≡_ {A = ℕ} 0 1 = cc in omega arith)
     by-number on (Value n) p q = by-test on n p (startsWith sep tail) refl q
 

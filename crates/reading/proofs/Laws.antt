@@ -12,12 +12,13 @@ use lib.ListN.{length, take, drop, getD, set, length-set, drop-of-length-le}
 use lib.Seq.{drop-cons, take-all, take-suc-set}
 use lib.Dec.{eqb, lit<}
 use borrow.Author.Tests.{eq-eqb, ne-eqb, not-true, not-false}
-use Rattle.text.specs.Bytes.{pick, upTo}
+use Rattle.text.specs.Bytes.{upTo}
+use Rattle.algebra.specs.Choice.{pick}
 use Rattle.text.proofs.Laws.{part-from, upTo-le}
 use Rattle.word.specs.Words.{endsWord}
 use Rattle.word.specs.Numbers.{numberOf}
-use Rattle.word.specs.declared.Number.{Number}
-use Rattle.word.specs.declared.Number.the-variants.{Value, Missing}
+use Rattle.word.specs.declared.Numeral.{Numeral}
+use Rattle.word.specs.declared.Numeral.the-variants.{Value, Missing}
 use Rattle.reading.specs.declared.Form.the-variants.{Read, Other}
 use Rattle.reading.specs.Reading.{startsWith, taken, recordIn, onNumber, readFrom, opening, space, separators, formOf}
 
@@ -119,7 +120,7 @@ form-other line f p q = rw (sym p ∙ not-true f q) refl
 
 module _ (line v rest : List ℕ) (j : ℕ) (h : Reading line v rest j) where
   -- the next word, and the number that it spells
-  module _ (more : j < 10) (word : List ℕ) (cut : word ≡ upTo endsWord rest) (o : Number) (is : o ≡ numberOf word) where
+  module _ (more : j < 10) (word : List ℕ) (cut : word ≡ upTo endsWord rest) (o : Numeral) (is : o ≡ numberOf word) where
     onward : drop j separators ≡ getD separators j [] ∷ drop (j + 1) separators
     onward = drop-cons separators j [] more ∙ ap (λ (k : ℕ). getD separators j [] ∷ drop k separators) (sym (add-one j))
 

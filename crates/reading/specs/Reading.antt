@@ -5,11 +5,12 @@ use mathlib.Core.Bool.{Bool, true, false}
 use mathlib.Core.List.{List, [], _∷_, _++_}
 use lib.ListN.{length, getD, drop}
 use lib.Dec.{eqb, ltb}
-use Rattle.text.specs.Bytes.{ascii, pick, upTo}
+use Rattle.text.specs.Bytes.{ascii, upTo}
+use Rattle.algebra.specs.Choice.{pick}
 use Rattle.word.specs.Words.{endsWord}
 use Rattle.word.specs.Numbers.{numberOf}
-use Rattle.word.specs.declared.Number.{Number}
-use Rattle.word.specs.declared.Number.the-variants.{Value, Missing}
+use Rattle.word.specs.declared.Numeral.{Numeral}
+use Rattle.word.specs.declared.Numeral.the-variants.{Value, Missing}
 use Rattle.record.specs.declared.Record.{Record}
 use Rattle.answer.specs.declared.Answer.{Answer}
 use Rattle.answer.specs.declared.Answer.the-variants.{Refused}
@@ -32,7 +33,7 @@ taken w s = pick (startsWith w s) (length w) 0
 abbrev pub recordIn : List ℕ → Record
 recordIn v = recordOf (getD v 0 0) (getD v 1 0) (getD v 2 0) (getD v 3 0) (getD v 4 0) (getD v 5 0) (getD v 6 0) (getD v 7 0) (getD v 8 0) (getD v 9 0)
 
-unfoldable pub onNumber : Number → (ℕ → Form) → Form
+unfoldable pub onNumber : Numeral → (ℕ → Form) → Form
 onNumber Missing k = Other
 onNumber (Value n) k = k n
 

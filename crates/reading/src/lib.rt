@@ -1,6 +1,6 @@
 // One line of a sheet: the record that it spells.
 use record::Record;
-use word::Number;
+use word::Numeral;
 use word::next_word;
 use word::number_of;
 ghost use mathlib.Core.Path.{_≡_};
@@ -87,7 +87,7 @@ pub fn read(line: &[u8]) -> Form
     let mut j = 0;
     while j < 10 {
         let word = next_word(rest);
-        let Number::Value(n) = number_of(word) else {
+        let Numeral::Value(n) = number_of(word) else {
             return Form::Other;
         };
         v[j] = n;

@@ -7,9 +7,9 @@ use native.Mathlib.Decide.{ℕ-discrete}
 use native.Mathlib.Omega.{arith}
 use lib.Dec.{leb, ltb, lit<}
 use borrow.Author.Tests.{leb-true, leb-false, ltb-true, ltb-false, eq-eqb, ne-eqb}
-use Rattle.cylinder.specs.Number.{pick}
+use Rattle.algebra.specs.Choice.{pick}
 use Rattle.cylinder.specs.Fraction.{whole}
-use Rattle.cylinder.specs.Within.{Within}
+use Rattle.cylinder.specs.InLimits.{InLimits}
 use Rattle.cylinder.specs.Sum.{Over, AtMost, AtLeast}
 use Rattle.cylinder.specs.Search.{judge}
 use Rattle.cylinder.proofs.Judge.{judged-within}
@@ -45,7 +45,7 @@ below c n h6 h7 h8 h9 h10 m lt =
     ]
 
 -- a record that passes every check has a shell within the limits
-pub shell-within : (c : Record) → inRange c ≡ true → wallRatio c ≡ true → lengthRatio c ≡ true → tolerated c ≡ true → Within (shellOf c)
+pub shell-within : (c : Record) → inRange c ≡ true → wallRatio c ≡ true → lengthRatio c ≡ true → tolerated c ≡ true → InLimits (shellOf c)
 shell-within c r w l t =
     let rs = ranges c r in
     let thick = between (20 * c .wall) (2500 * c .wall) (100 * c .radius) w in
@@ -96,12 +96,12 @@ judged-right c = go (inRange c) refl (edgesKnown c) refl (wallRatio c) refl (len
 -- ---- for the code
 
 -- a record that is not refused has a shell within the limits, and stresses in their range
-pub accepted : (c : Record) → refusal c ≡ 0 → (inRange c ≡ true) × Within (shellOf c)
+pub accepted : (c : Record) → refusal c ≡ 0 → (inRange c ≡ true) × InLimits (shellOf c)
 unfolding refusal
 accepted c h = go (inRange c) refl (edgesKnown c) refl (wallRatio c) refl (lengthRatio c) refl (tolerated c) refl
   where
     go : (a : Bool) → inRange c ≡ a → (b : Bool) → edgesKnown c ≡ b → (d : Bool) → wallRatio c ≡ d → (e : Bool) → lengthRatio c ≡ e → (f : Bool) → tolerated c ≡ f →
-        (inRange c ≡ true) × Within (shellOf c)
+        (inRange c ≡ true) × InLimits (shellOf c)
     go false ha b hb d hd e he f hf = let z : _≡_ {A = ℕ} 6 0 = rw ha at h in absurd (omega arith)
     go true ha false hb d hd e he f hf = let z : _≡_ {A = ℕ} 7 0 = rw (ha, hb) at h in absurd (omega arith)
     go true ha true hb false hd e he f hf = let z : _≡_ {A = ℕ} 8 0 = rw (ha, hb, hd) at h in absurd (omega arith)

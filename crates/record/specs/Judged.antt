@@ -4,7 +4,7 @@ use mathlib.Core.Bool.{Bool, true, false}
 use mathlib.Core.Path.{_≡_}
 use lib.Dec.{eqb}
 use Rattle.cylinder.specs.Fraction.{whole}
-use Rattle.cylinder.specs.Number.{pick}
+use Rattle.algebra.specs.Choice.{pick}
 use Rattle.cylinder.specs.Sum
 use Rattle.cylinder.specs.Search.{Pair, judge}
 use Rattle.record.specs.declared.Record.{Record}

@@ -2,7 +2,7 @@
 use Prim.Native.Nat.{ℕ, _*_}
 use mathlib.Core.Bool.{Bool, _&&_, _||_}
 use lib.Dec.{leb, eqb}
-use Rattle.cylinder.specs.Number.{pick}
+use Rattle.algebra.specs.Choice.{pick}
 use Rattle.record.specs.declared.Record.{Record}
 use Rattle.cylinder.specs.declared.Shell.{Shell}
 

@@ -7,7 +7,7 @@ use Rattle.wide.specs.Order.{orderOf}
 use Rattle.factors.specs.Product.{prod}
 use Rattle.algebra.proofs.Ring.{ring, quoted}
 use Rattle.cylinder.specs.declared.Shell.{Shell}
-use Rattle.cylinder.specs.WholeIdeal.{shearShortS}
+use Rattle.cylinder.specs.WholeIdeal.{shearShortCut}
 use Rattle.rooted.specs.Decision.{Decides}
 use Rattle.rooted.proofs.Decision.{decides}
 
@@ -28,8 +28,8 @@ shear-e E w l p = ring (E ∷ w ∷ l ∷ p ∷ []) (search quoted depth 60 fits
 pub shear-short-row : (s : Shell) (p q : ℕ) {o : Order} {X Y D Z : ℕ} → X ≡ prod (25600000000 ∷ s .radius ∷ s .length ∷ s .length ∷ s .length ∷ s .length ∷ s .«yield_stress» ∷ s .«yield_stress» ∷ q ∷ q ∷ q ∷ q ∷ [])
     → Y ≡ prod (1134 ∷ s .modulus ∷ s .modulus ∷ s .wall ∷ s .wall ∷ s .wall ∷ s .wall ∷ s .radius ∷ p ∷ p ∷ p ∷ p ∷ []) → D ≡ X - Y
     → Z ≡ prod (1080000 ∷ s .modulus ∷ s .modulus ∷ s .wall ∷ s .wall ∷ s .length ∷ s .length ∷ s .length ∷ p ∷ p ∷ p ∷ p ∷ [])
-    → o ≡ orderOf (Z ^ 2 * s .wall) (D ^ 2 * (200 * s .radius)) → Decides o (shearShortS s) p q
+    → o ≡ orderOf (Z ^ 2 * s .wall) (D ^ 2 * (200 * s .radius)) → Decides o (shearShortCut s) p q
 shear-short-row s p q x y d z e =
-    decides (shearShortS s) p q e (ap (λ (n : ℕ). n ^ 2 * s .wall) (z ∙ shear-e (s .modulus) (s .wall) (s .length) p))
+    decides (shearShortCut s) p q e (ap (λ (n : ℕ). n ^ 2 * s .wall) (z ∙ shear-e (s .modulus) (s .wall) (s .length) p))
     (ap (λ (n : ℕ). n ^ 2 * (200 * s .radius))
     (d ∙ ap₂ _-_ (x ∙ shear-d (s .radius) (s .length) (s .«yield_stress») q) (y ∙ shear-c (s .modulus) (s .wall) (s .radius) p))) refl refl

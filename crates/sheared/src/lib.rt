@@ -1,7 +1,7 @@
 // Shear, short: how the related slenderness S compares with a fraction p/q. The ideal stress is a sum with a root, so the two
 // sides are compared by their squares. Nothing is rounded.
-ghost use Rattle.cylinder.specs.Within.{Within};
-ghost use Rattle.cylinder.specs.WholeIdeal.{shearShortS};
+ghost use Rattle.cylinder.specs.InLimits.{InLimits};
+ghost use Rattle.cylinder.specs.WholeIdeal.{shearShortCut};
 ghost use Rattle.rooted.specs.Decision.{Decides};
 use cylinder::Shell;
 use wide::LIMBS;
@@ -9,8 +9,8 @@ use wide::Order;
 
 // Shear, short: e √(w/(200 r)) against d q⁴/p⁴ - c.
 pub fn shear_short_order(s: Shell, p: u64, q: u64) -> Order
-    requires { ⌜ Within s ⌝ }
-    ensures { λ r. ⌜ Decides r (shearShortS s) p q ⌝ }
+    requires { ⌜ InLimits s ⌝ }
+    ensures { λ r. ⌜ Decides r (shearShortCut s) p q ⌝ }
 {
     let e = s.modulus;
     let w = s.wall;

@@ -33,10 +33,10 @@ pub record Lies2 (s : Cut) (b : Branches) : Type 0 where
 
 -- the factor of the resistance in these branches: κ1 for ring stress and shear, κ2 with its partial factor for axial stress
 abbrev pub factor1 : Branches → ℕ → Factor
-factor1 b e = times (curves.reduction1 (partOf (b .part))) (curves.tolerance (b .long) e)
+factor1 b e = times (curves.reduction1 (partOf (b .part))) (curves.toleranceFactor (b .long) e)
 
 abbrev pub factor2 : Branches → ℕ → Factor
-factor2 b e = times (times (curves.reduction2 (partOf (b .part))) (curves.tolerance (b .long) e)) (curves.safety (b .near) (b .far))
+factor2 b e = times (times (curves.reduction2 (partOf (b .part))) (curves.toleranceFactor (b .long) e)) (curves.safety (b .near) (b .far))
 
 abbrev pub factorOf : Stress → Branches → ℕ → Factor
 factorOf Axial b e = factor2 b e

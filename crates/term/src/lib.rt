@@ -5,7 +5,7 @@ ghost use mathlib.Core.Path.{_≡_};
 ghost use Prim.Native.Nat.{_-_, _*_, _≤_, _<_};
 ghost use Rattle.wide.specs.Value.{base};
 ghost use Rattle.factors.specs.Product.{prod};
-ghost use Rattle.cylinder.specs.WholeCurves.{reduction1, reduction2, tolerance, safety};
+ghost use Rattle.cylinder.specs.WholeCurves.{reduction1, reduction2, toleranceFactor, safety};
 ghost use Rattle.cylinder.specs.Search.{most};
 ghost use Rattle.term.specs.TermOf.{partOf, factor1, factor2, factorOf, termOf, powerOf};
 use cylinder::Stress;
@@ -111,7 +111,7 @@ fn kappa2_below(part: Part, k: u64, q: u64) -> Two
 // The tolerance at an excess of e thousandths over the permitted imperfection: its numerator.
 fn tolerance_above(long: bool, e: u64, k: u64, q: u64) -> u64
     requires { ⌜ (e ≤ 1000) × (k < base) × (q ≤ 200000000) ⌝ }
-    ensures { λ r. ⌜ r ≡ tolerance long e .num k q ⌝ }
+    ensures { λ r. ⌜ r ≡ toleranceFactor long e .num k q ⌝ }
 {
     if long {
         2000 - e
@@ -123,7 +123,7 @@ fn tolerance_above(long: bool, e: u64, k: u64, q: u64) -> u64
 // The tolerance: its denominator.
 fn tolerance_below(long: bool, e: u64, k: u64, q: u64) -> u64
     requires { ⌜ q ≤ 200000000 ⌝ }
-    ensures { λ r. ⌜ r ≡ tolerance long e .den k q ⌝ }
+    ensures { λ r. ⌜ r ≡ toleranceFactor long e .den k q ⌝ }
 {
     if long { 2000 } else { 3000 * q }
 }

@@ -3,7 +3,7 @@ use Prim.Native.Nat.{_*_, _≤_}
 use Rattle.cylinder.specs.declared.Shell.{Shell}
 
 -- The wall is twice t in hundredths of a mm. By document 01 it is 200 at least; a wall that is short by some hundredths may be down to 150.
-pub record Within (s : Shell) : Type 0 where
+pub record InLimits (s : Shell) : Type 0 where
   pub radius-least : 100 ≤ s .radius
   pub radius-most : s .radius ≤ 50000
   pub wall-least : 150 ≤ s .wall
