@@ -1,1 +1,4 @@
 pub mod Tests
+pub mod Checks
+pub mod Right
+pub mod Verdicts

@@ -1,12 +1,26 @@
 // Writes the line of a listing for an answer.
 use answer::Answer;
+use answer::Verdict;
 use text::put_bytes;
 use text::put_number;
 ghost use mathlib.Core.Path.{_≡_};
 ghost use Prim.Native.Nat.{_+_, _≤_};
 ghost use lib.ListN.{length};
 ghost use Rattle.text.specs.Bytes.{put};
-ghost use Rattle.listing.specs.Listing.{said, entry, ended};
+ghost use Rattle.listing.specs.Listing.{verdictWord, said, entry, ended};
+
+// Writes the word of a verdict.
+fn put_word(out: &mut [u8], at: usize, v: Verdict) -> usize
+    requires { ⌜ at + length (verdictWord v) ≤ length (now out) ⌝ }
+    ensures { λ r. ⌜ r ≡ at + length (verdictWord v) ⌝ }
+    ensures { λ _. ⌜ now (out .exit) ≡ put (now (out .entry)) at (verdictWord v) ⌝ }
+{
+    match v {
+        Verdict::Holds => put_bytes(out, at, b"holds"),
+        Verdict::Fails => put_bytes(out, at, b"fails"),
+        Verdict::Open => put_bytes(out, at, b"open"),
+    }
+}
 
 // Writes what follows the number in the line for an answer.
 fn put_said(out: &mut [u8], at: usize, a: Answer) -> usize
@@ -15,9 +29,12 @@ fn put_said(out: &mut [u8], at: usize, a: Answer) -> usize
     ensures { λ _. ⌜ now (out .exit) ≡ put (now (out .entry)) at (said a) ⌝ }
 {
     match a {
-        Answer::Holds(_, _) => put_bytes(out, at, b" holds)"),
-        Answer::Fails(_, _) => put_bytes(out, at, b" fails)"),
-        Answer::Open(_, _) => put_bytes(out, at, b" open)"),
+        Answer::Judged(j) => {
+            let b = put_bytes(out, at, b" ");
+            let v = j.verdict;
+            let e = put_word(out, b, v);
+            put_bytes(out, e, b")")
+        }
         Answer::Refused(n) => {
             let b = put_bytes(out, at, b" refused ");
             let e = put_number(out, b, n);

@@ -12,9 +12,11 @@ use borrow.Author.Tests.{ne-eqb}
 use Rattle.text.specs.Bytes.{ascii, digits, decimal, isNewline, onFirst, lines}
 use Rattle.algebra.specs.Choice.{pick}
 use Rattle.answer.specs.declared.Answer.{Answer}
-use Rattle.answer.specs.declared.Answer.the-variants.{Refused, Holds, Fails, Open}
+use Rattle.answer.specs.declared.Answer.the-variants.{Refused, Judged}
+use Rattle.answer.specs.declared.Verdict.{Verdict}
+use Rattle.answer.specs.declared.Verdict.the-variants.{Holds, Fails, Open}
 use Rattle.listing.specs.declared.Counts.{Counts}
-use Rattle.listing.specs.Listing.{said, entry, entries, counts, spaced, total, ended, joined, listingOf}
+use Rattle.listing.specs.Listing.{verdictWord, said, entry, entries, counts, spaced, total, ended, joined, listingOf}
 
 -- ---- bytes without a newline
 
@@ -58,11 +60,15 @@ decimal-plain : (n : ℕ) → plain (decimal n) ≡ true
 unfolding decimal
 decimal-plain n = digits-plain n n
 
+word-plain : (v : Verdict) → plain (verdictWord v) ≡ true
+unfolding plain
+word-plain Holds = refl
+word-plain Fails = refl
+word-plain Open = refl
+
 said-plain : (a : Answer) → plain (said a) ≡ true
 unfolding plain
-said-plain (Holds L U) = refl
-said-plain (Fails L U) = refl
-said-plain (Open L U) = refl
+said-plain (Judged j) = plain-append (ascii " " ++ verdictWord (j .verdict)) (ascii ")") (plain-append (ascii " ") (verdictWord (j .verdict)) refl (word-plain (j .verdict))) refl
 said-plain (Refused n) =
     plain-append (ascii " refused " ++ decimal n) (ascii ")") (plain-append (ascii " refused ") (decimal n) refl (decimal-plain n)) refl
 

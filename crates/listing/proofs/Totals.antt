@@ -6,14 +6,17 @@ use native.Mathlib.Omega.{arith}
 use mathlib.Core.Bool.{Bool, true, false}
 use mathlib.Core.List.{List, [], _∷_, _++_, map}
 use lib.ListN.{length, length-append, length-map}
-use lib.Dec.{lit≤}
+use lib.Dec.{eqb, lit≤}
 use Rattle.text.specs.Bytes.{decimal}
 use Rattle.algebra.specs.Choice.{pick}
 use Rattle.text.proofs.Laws.{decimal-length}
 use Rattle.answer.specs.declared.Answer.{Answer}
-use Rattle.answer.specs.declared.Answer.the-variants.{Refused, Holds, Fails, Open}
+use Rattle.answer.specs.declared.Answer.the-variants.{Refused, Judged}
+use Rattle.answer.specs.declared.Verdict.{Verdict}
+use Rattle.answer.specs.declared.Verdict.the-variants.{Holds, Fails, Open}
+use Rattle.answer.specs.Answers.{verdictNumber}
 use Rattle.listing.specs.declared.Counts.{Counts}
-use Rattle.listing.specs.Listing.{said, entry, entries, isHolds, isFails, isOpen, isRefused, count, counts, total, ended, joined, listingOf}
+use Rattle.listing.specs.Listing.{verdictWord, said, entry, entries, says, isRefused, count, counts, total, ended, joined, listingOf}
 use Rattle.listing.proofs.Lengths.{entry-length, total-length}
 
 -- ---- counts
@@ -27,14 +30,17 @@ unfolding count
 count-le p [] = zero-le
 count-le p (a ∷ xs) = omega (arith, one-le (p a), count-le p xs)
 
+one-verdict : (v : Verdict) → pick (eqb 1 (verdictNumber v)) 1 0 + pick (eqb 2 (verdictNumber v)) 1 0 + pick (eqb 3 (verdictNumber v)) 1 0 + 0 ≡ 1
+one-verdict Holds = refl
+one-verdict Fails = refl
+one-verdict Open = refl
+
 -- each answer is of one kind
-one-kind : (a : Answer) → pick (isHolds a) 1 0 + pick (isFails a) 1 0 + pick (isOpen a) 1 0 + pick (isRefused a) 1 0 ≡ 1
-one-kind (Holds L U) = refl
-one-kind (Fails L U) = refl
-one-kind (Open L U) = refl
+one-kind : (a : Answer) → pick (says Holds a) 1 0 + pick (says Fails a) 1 0 + pick (says Open a) 1 0 + pick (isRefused a) 1 0 ≡ 1
+one-kind (Judged j) = one-verdict (j .verdict)
 one-kind (Refused n) = refl
 
-pub count-sum : (xs : List Answer) → length xs ≡ count isHolds xs + count isFails xs + count isOpen xs + count isRefused xs
+pub count-sum : (xs : List Answer) → length xs ≡ count (says Holds) xs + count (says Fails) xs + count (says Open) xs + count isRefused xs
 unfolding count
 count-sum [] = refl
 count-sum (a ∷ xs) = omega (arith, one-kind a, count-sum xs)
@@ -51,9 +57,9 @@ pub counts-within : (xs : List Answer) → Within (counts xs) (length xs)
 counts-within xs =
     record {
       lines = omega arith;
-      holds = count-le isHolds xs;
-      fails = count-le isFails xs;
-      opens = count-le isOpen xs;
+      holds = count-le (says Holds) xs;
+      fails = count-le (says Fails) xs;
+      opens = count-le (says Open) xs;
       refused = count-le isRefused xs;
     }
 
@@ -63,10 +69,13 @@ pub listing-length : (xs : List Answer) → length (listingOf xs) ≡ length (jo
 unfolding listingOf
 listing-length xs = length-append (joined (entries 1 xs)) _
 
+word-room : (v : Verdict) → length (verdictWord v) ≤ 5
+word-room Holds = lit≤ tt
+word-room Fails = lit≤ tt
+word-room Open = lit≤ tt
+
 said-room : (a : Answer) → ((n : ℕ) → a ≡ Refused n → n < 100) → length (said a) ≤ 12
-said-room (Holds L U) h = omega arith
-said-room (Fails L U) h = omega arith
-said-room (Open L U) h = omega arith
+said-room (Judged j) h = simp length-append (omega (arith, word-room (j .verdict)))
 said-room (Refused n) h = simp length-append (omega (arith, decimal-length 1 n (h n refl)))
 
 -- answers that a rule gives, whose refusals have numbers below 100

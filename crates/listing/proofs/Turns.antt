@@ -11,8 +11,10 @@ use Rattle.text.specs.Bytes.{put}
 use Rattle.algebra.specs.Choice.{pick}
 use Rattle.text.proofs.Laws.{put-nil, put-length, put-append, Wrote, wrote-then}
 use Rattle.answer.specs.declared.Answer.{Answer}
+use Rattle.answer.specs.declared.Verdict.the-variants.{Holds, Fails, Open}
 use Rattle.listing.specs.declared.Counts.{Counts}
-use Rattle.listing.specs.Listing.{entry, entries, isHolds, isFails, isOpen, isRefused, count, counts, total, ended, joined, listingOf, noCounts, withAnswer}
+use Rattle.listing.specs.Listing.{entry, entries, says, isRefused, count, counts, total, ended, joined, listingOf, noCounts}
+use Rattle.listing.specs.Counting.{withAnswer}
 use Rattle.listing.proofs.Totals.{Within, counts-within, listing-length}
 
 -- the counts with the answers xs added
@@ -20,9 +22,9 @@ abbrev added : Counts → List Answer → Counts
 added c xs =
     record {
       lines = c .lines + length xs;
-      holds = c .holds + count isHolds xs;
-      fails = c .fails + count isFails xs;
-      opens = c .opens + count isOpen xs;
+      holds = c .holds + count (says Holds) xs;
+      fails = c .fails + count (says Fails) xs;
+      opens = c .opens + count (says Open) xs;
       refused = c .refused + count isRefused xs;
     }
 
@@ -43,9 +45,9 @@ here-first whole out c e =
       counted =
           λ i. record {
             lines = zero-add (length whole) i;
-            holds = zero-add (count isHolds whole) i;
-            fails = zero-add (count isFails whole) i;
-            opens = zero-add (count isOpen whole) i;
+            holds = zero-add (count (says Holds) whole) i;
+            fails = zero-add (count (says Fails) whole) i;
+            opens = zero-add (count (says Open) whole) i;
             refused = zero-add (count isRefused whole) i;
           };
     })
@@ -58,9 +60,9 @@ module _ (whole : List Answer) (out₀ out : List ℕ) (at : ℕ) (c : Counts) w
     added-cons =
         λ i. record {
           lines = lines i;
-          holds = sum (c .holds) (pick (isHolds a) 1 0) (count isHolds ys) i;
-          fails = sum (c .fails) (pick (isFails a) 1 0) (count isFails ys) i;
-          opens = sum (c .opens) (pick (isOpen a) 1 0) (count isOpen ys) i;
+          holds = sum (c .holds) (pick (says Holds a) 1 0) (count (says Holds) ys) i;
+          fails = sum (c .fails) (pick (says Fails a) 1 0) (count (says Fails) ys) i;
+          opens = sum (c .opens) (pick (says Open a) 1 0) (count (says Open) ys) i;
           refused = sum (c .refused) (pick (isRefused a) 1 0) (count isRefused ys) i;
         }
       where

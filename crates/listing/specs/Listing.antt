@@ -3,19 +3,27 @@ use Prim.Native.Nat.{ℕ, _+_}
 use mathlib.Core.Bool.{Bool, true, false}
 use mathlib.Core.List.{List, [], _∷_, _++_}
 use lib.ListN.{length}
+use lib.Dec.{eqb}
 use Rattle.text.specs.Bytes.{ascii, decimal}
 use Rattle.algebra.specs.Choice.{pick}
 use Rattle.answer.specs.declared.Answer.{Answer}
-use Rattle.answer.specs.declared.Answer.the-variants.{Refused, Holds, Fails, Open}
+use Rattle.answer.specs.declared.Answer.the-variants.{Refused, Judged}
+use Rattle.answer.specs.declared.Verdict.{Verdict}
+use Rattle.answer.specs.declared.Verdict.the-variants.{Holds, Fails, Open}
+use Rattle.answer.specs.Answers.{verdictNumber}
 use Rattle.listing.specs.declared.Counts.{Counts}
 
 -- ---- a line for each answer
 
+-- the word of a verdict
+abbrev pub verdictWord : Verdict → List ℕ
+verdictWord Holds = ascii "holds"
+verdictWord Fails = ascii "fails"
+verdictWord Open = ascii "open"
+
 -- what follows the line's number
 abbrev pub said : Answer → List ℕ
-said (Holds L U) = ascii " holds)"
-said (Fails L U) = ascii " fails)"
-said (Open L U) = ascii " open)"
+said (Judged j) = ascii " " ++ verdictWord (j .verdict) ++ ascii ")"
 said (Refused n) = ascii " refused " ++ decimal n ++ ascii ")"
 
 -- "(k holds), (k fails), (k open) or (k refused N) for line k"
@@ -29,28 +37,13 @@ entries k (a ∷ answers) = entry k a ∷ entries (k + 1) answers
 
 -- ---- the total line
 
-abbrev pub isHolds : Answer → Bool
-isHolds (Holds L U) = true
-isHolds (Fails L U) = false
-isHolds (Open L U) = false
-isHolds (Refused n) = false
-
-abbrev pub isFails : Answer → Bool
-isFails (Holds L U) = false
-isFails (Fails L U) = true
-isFails (Open L U) = false
-isFails (Refused n) = false
-
-abbrev pub isOpen : Answer → Bool
-isOpen (Holds L U) = false
-isOpen (Fails L U) = false
-isOpen (Open L U) = true
-isOpen (Refused n) = false
+-- the answer has the verdict v; the answer is a refusal
+abbrev pub says : Verdict → Answer → Bool
+says v (Judged j) = eqb (verdictNumber v) (verdictNumber (j .verdict))
+says v (Refused n) = false
 
 abbrev pub isRefused : Answer → Bool
-isRefused (Holds L U) = false
-isRefused (Fails L U) = false
-isRefused (Open L U) = false
+isRefused (Judged j) = false
 isRefused (Refused n) = true
 
 -- how many answers pass a test
@@ -63,11 +56,15 @@ abbrev pub counts : List Answer → Counts
 counts answers =
     record {
       lines = length answers;
-      holds = count isHolds answers;
-      fails = count isFails answers;
-      opens = count isOpen answers;
+      holds = count (says Holds) answers;
+      fails = count (says Fails) answers;
+      opens = count (says Open) answers;
       refused = count isRefused answers;
     }
+
+-- all counts 0
+abbrev pub noCounts : Counts
+noCounts = record { lines = 0; holds = 0; fails = 0; opens = 0; refused = 0 }
 
 abbrev pub spaced : ℕ → List ℕ
 spaced n = ascii " " ++ decimal n
@@ -90,20 +87,3 @@ joined (line ∷ lines) = ended line ++ joined lines
 -- "The listing is the line for answer 1, then 2, up to n, then the total line, and nothing else"
 unfoldable pub listingOf : List Answer → List ℕ
 listingOf answers = joined (entries 1 answers) ++ ended (total (counts answers))
-
--- ---- counting one answer after the other
-
--- no answer yet
-abbrev pub noCounts : Counts
-noCounts = record { lines = 0; holds = 0; fails = 0; opens = 0; refused = 0 }
-
--- counts with one more answer
-abbrev pub withAnswer : Counts → Answer → Counts
-withAnswer c a =
-    record {
-      lines = c .lines + 1;
-      holds = c .holds + pick (isHolds a) 1 0;
-      fails = c .fails + pick (isFails a) 1 0;
-      opens = c .opens + pick (isOpen a) 1 0;
-      refused = c .refused + pick (isRefused a) 1 0;
-    }

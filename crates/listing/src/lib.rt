@@ -1,8 +1,10 @@
 // The listing of document 01, and the counts of its answers.
 use answer::Answer;
+use answer::Verdict;
 ghost use mathlib.Core.Path.{_≡_};
 ghost use Prim.Native.Nat.{_<_};
-ghost use Rattle.listing.specs.Listing.{noCounts, withAnswer};
+ghost use Rattle.listing.specs.Listing.{noCounts};
+ghost use Rattle.listing.specs.Counting.{withAnswer};
 
 // The five counts of a listing: of lines, and of the answers of each kind.
 pub struct Counts {
@@ -35,17 +37,22 @@ impl Counts {
         let mut c = self;
         c.lines += 1;
         match a {
-            Answer::Holds(_, _) => {
-                c.holds += 1;
-            }
-            Answer::Fails(_, _) => {
-                c.fails += 1;
-            }
-            Answer::Open(_, _) => {
-                c.opens += 1;
-            }
             Answer::Refused(_) => {
                 c.refused += 1;
+            }
+            Answer::Judged(j) => {
+                let verdict = j.verdict;
+                match verdict {
+                    Verdict::Holds => {
+                        c.holds += 1;
+                    }
+                    Verdict::Fails => {
+                        c.fails += 1;
+                    }
+                    Verdict::Open => {
+                        c.opens += 1;
+                    }
+                }
             }
         }
         c

@@ -1,48 +1,80 @@
--- The ranges that check 6 gives. Assumes nothing.
+-- The ranges that the checks give. Assumes nothing.
 use mathlib.Core.Path.{_≡_}
 use mathlib.Core.Bool.{true, _&&_}
-use Prim.Native.Nat.{ℕ, _≤_}
+use Prim.Native.Nat.{ℕ, _*_, _≤_}
+use native.Mathlib.Omega.{arith}
 use lib.Dec.{leb}
 use borrow.Author.Tests.{leb-true}
 use Rattle.algebra.proofs.Tests.{and-true}
+use Rattle.cylinder.specs.InLimits.{InLimits}
+use Rattle.answer.specs.Checks.{AllPassed}
+use Rattle.record.specs.declared.Wall.{Wall}
+use Rattle.record.specs.declared.Group.{Group}
 use Rattle.record.specs.declared.Record.{Record}
-use Rattle.record.specs.Limits.{within, dimensions, material, stresses, inRange}
+use Rattle.record.specs.Limits.{fromTo, dimensions, material, stresses, inRange, checks, shellOf}
 
 -- a number in its range
 pub record Between (low high x : ℕ) : Type 0 where
   pub least : low ≤ x
   pub most : x ≤ high
 
-pub between : (low high x : ℕ) → within low high x ≡ true → Between low high x
+pub between : (low high x : ℕ) → fromTo low high x ≡ true → Between low high x
 between low high x h = let (a, b) = and-true (leb low x) (leb x high) h in record { least = leb-true low x a; most = leb-true x high b }
 
 -- what check 6 lets through
-pub record Ranges (c : Record) : Type 0 where
-  pub radius : Between 100 50000 (c .radius)
-  pub wall : Between 100 10000 (c .wall)
-  pub length : Between 10 200000 (c .length)
-  pub modulus : Between 60000 220000 (c .modulus)
-  pub yield : Between 100 700 (c .«yield_stress»)
-  pub axial : c .axial ≤ 700000
-  pub ring : c .ring ≤ 700000
-  pub shear : c .shear ≤ 700000
+pub record Ranges (w : Wall) (g : Group) : Type 0 where
+  pub radius : Between 100 50000 (w .radius)
+  pub thickness : Between 100 10000 (w .thickness)
+  pub length : Between 10 200000 (w .length)
+  pub modulus : Between 60000 220000 (w .modulus)
+  pub yield : Between 100 700 (w .«yield_stress»)
+  pub axial : g .axial ≤ 700000
+  pub ring : g .ring ≤ 700000
+  pub shear : g .shear ≤ 700000
 
-pub ranges : (c : Record) → inRange c ≡ true → Ranges c
+pub ranges : (c : Record) → inRange c ≡ true → Ranges (c .wall) (c .group)
 ranges c h =
-    let (d, ms) = and-true (dimensions c) (material c && stresses c) h in
-    let (m, s) = and-true (material c) (stresses c) ms in
-    let (r, wl) = and-true (within 100 50000 (c .radius)) (within 100 10000 (c .wall) && within 10 200000 (c .length)) d in
-    let (w, l) = and-true (within 100 10000 (c .wall)) (within 10 200000 (c .length)) wl in
-    let (e, f) = and-true (within 60000 220000 (c .modulus)) (within 100 700 (c .«yield_stress»)) m in
-    let (x, yz) = and-true (leb (c .axial) 700000) (leb (c .ring) 700000 && leb (c .shear) 700000) s in
-    let (y, z) = and-true (leb (c .ring) 700000) (leb (c .shear) 700000) yz in
+    let W : Wall = c .wall in
+    let G : Group = c .group in
+    let (d, ms) = and-true (dimensions W) (material W && stresses G) h in
+    let (m, s) = and-true (material W) (stresses G) ms in
+    let (r, wl) = and-true (fromTo 100 50000 (W .radius)) (fromTo 100 10000 (W .thickness) && fromTo 10 200000 (W .length)) d in
+    let (w, l) = and-true (fromTo 100 10000 (W .thickness)) (fromTo 10 200000 (W .length)) wl in
+    let (e, f) = and-true (fromTo 60000 220000 (W .modulus)) (fromTo 100 700 (W .«yield_stress»)) m in
+    let (x, yz) = and-true (leb (G .axial) 700000) (leb (G .ring) 700000 && leb (G .shear) 700000) s in
+    let (y, z) = and-true (leb (G .ring) 700000) (leb (G .shear) 700000) yz in
     record {
-      radius = between 100 50000 (c .radius) r;
-      wall = between 100 10000 (c .wall) w;
-      length = between 10 200000 (c .length) l;
-      modulus = between 60000 220000 (c .modulus) e;
-      yield = between 100 700 (c .«yield_stress») f;
-      axial = leb-true (c .axial) 700000 x;
-      ring = leb-true (c .ring) 700000 y;
-      shear = leb-true (c .shear) 700000 z;
+      radius = between 100 50000 (W .radius) r;
+      thickness = between 100 10000 (W .thickness) w;
+      length = between 10 200000 (W .length) l;
+      modulus = between 60000 220000 (W .modulus) e;
+      yield = between 100 700 (W .«yield_stress») f;
+      axial = leb-true (G .axial) 700000 x;
+      ring = leb-true (G .ring) 700000 y;
+      shear = leb-true (G .shear) 700000 z;
+    }
+
+-- the cylinder of a record that passes every check is within the limits
+pub shell-within : (c : Record) → AllPassed (checks c) → InLimits (shellOf (c .wall))
+shell-within c (r, (e, (w, (l, (t, u))))) =
+    let W : Wall = c .wall in
+    let rs = ranges c r in
+    let thick = between (20 * W .thickness) (2500 * W .thickness) (100 * W .radius) w in
+    let (short, long) = and-true (leb (W .radius) (20 * W .length)) (leb (W .length) (50 * W .radius)) l in
+    record {
+      radius-least = rs .radius .least;
+      radius-most = rs .radius .most;
+      wall-least = omega (arith, rs .thickness .least);
+      wall-most = omega (arith, rs .thickness .most);
+      length-least = rs .length .least;
+      length-most = rs .length .most;
+      modulus-least = rs .modulus .least;
+      modulus-most = rs .modulus .most;
+      yield-least = rs .yield .least;
+      yield-most = rs .yield .most;
+      imperfection-most = leb-true (W .imperfection) 2000 t;
+      not-thick = omega (arith, thick .least);
+      not-thin = omega (arith, thick .most);
+      not-short = leb-true (W .radius) (20 * W .length) short;
+      not-long = leb-true (W .length) (50 * W .radius) long;
     }

@@ -1,2 +1,3 @@
 pub mod Checks
-pub mod Judged
+pub mod Right
+pub mod Trial

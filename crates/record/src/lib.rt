@@ -1,16 +1,22 @@
-// One record of document 01: its limits, the first check that it breaks, and its cylinder.
+// One record: its limits, and its judge.
 ghost use mathlib.Core.Path.{_≡_};
 ghost use Prim.Native.Nat.{_*_, _≤_};
-ghost use Rattle.record.specs.Limits.{within, inRange, dimensions, material, stresses, edgesKnown, wallRatio, lengthRatio, refusal, shellOf, recordOf};
+ghost use Rattle.answer.specs.Checks.{AllPassed};
+ghost use Rattle.record.specs.Limits.{fromTo, inRange, dimensions, material, stresses, edgesKnown, wallRatio, lengthRatio, tolerated, checks, shellOf, recordOf};
+ghost use Rattle.record.specs.Right.{Right};
+ghost use Rattle.record.specs.Answering.{judgementOfRecord, recordAnswer};
+use answer::Answer;
+use answer::Judgement;
+use bounds::Load;
 use cylinder::Shell;
 
-// A record as document 01 lays it down, each field any u64.
-pub struct Record {
+// A shell's wall and edges, each field any u64.
+pub struct Wall {
     // r, radius of the middle surface, mm
     pub radius: u64,
-    // t, wall, hundredths of a mm
-    pub wall: u64,
-    // l, length, mm
+    // t, hundredths of a mm
+    pub thickness: u64,
+    // l, mm
     pub length: u64,
     // E, modulus, N/mm²
     pub modulus: u64,
@@ -20,19 +26,137 @@ pub struct Record {
     pub edges: u64,
     // a, worst ratio of found to permitted imperfection, thousandths
     pub imperfection: u64,
-    // σx, kN/m²
+}
+
+// A stress group, kN/m², compression positive.
+pub struct Group {
+    // σx
     pub axial: u64,
-    // σφ, kN/m²
+    // σφ
     pub ring: u64,
-    // τ, kN/m²
+    // τ
     pub shear: u64,
+}
+
+// A shell with its load.
+pub struct Record {
+    pub wall: Wall,
+    pub group: Group,
 }
 
 // Whether x lies from low to high.
 fn in_range(x: u64, low: u64, high: u64) -> bool
-    ensures { λ r. ⌜ r ≡ within low high x ⌝ }
+    ensures { λ r. ⌜ r ≡ fromTo low high x ⌝ }
 {
     if low <= x { x <= high } else { false }
+}
+
+// A whole stress.
+fn load(stress: u64) -> Load
+    ensures { λ r. ⌜ (r .num ≡ stress) × (r .den ≡ 1) ⌝ }
+{
+    Load {
+        num: stress,
+        den: 1,
+    }
+}
+
+impl Wall {
+    // Whether radius, wall and length lie in their ranges.
+    fn has_dimensions(self) -> bool
+        ensures { λ r. ⌜ r ≡ dimensions self ⌝ }
+    {
+        if in_range(self.radius, Record::RADIUS_LEAST, Record::RADIUS_MOST) {
+            if in_range(self.thickness, Record::WALL_LEAST, Record::WALL_MOST) {
+                in_range(self.length, Record::LENGTH_LEAST, Record::LENGTH_MOST)
+            } else {
+                false
+            }
+        } else {
+            false
+        }
+    }
+
+    // Whether modulus and yield stress lie in their ranges.
+    fn has_material(self) -> bool
+        ensures { λ r. ⌜ r ≡ material self ⌝ }
+    {
+        if in_range(self.modulus, Record::MODULUS_LEAST, Record::MODULUS_MOST) {
+            in_range(self.yield_stress, Record::YIELD_LEAST, Record::YIELD_MOST)
+        } else {
+            false
+        }
+    }
+
+    // Whether the wall passes check 7.
+    fn has_known_edges(self) -> bool
+        ensures { λ r. ⌜ r ≡ edgesKnown self ⌝ }
+    {
+        if self.edges == Record::EDGES_HELD {
+            return true;
+        }
+        if self.edges == Record::EDGES_MIXED {
+            return true;
+        }
+        self.edges == Record::EDGES_FREE
+    }
+
+    // Whether the wall passes check 8.
+    fn has_wall_ratio(self) -> bool
+        requires { ⌜ (self .radius ≤ 50000) × (self .thickness ≤ 10000) ⌝ }
+        ensures { λ r. ⌜ r ≡ wallRatio self ⌝ }
+    {
+        in_range(
+            100 * self.radius,
+            Record::THICKNESSES_LEAST * self.thickness,
+            Record::THICKNESSES_MOST * self.thickness,
+        )
+    }
+
+    // Whether the wall passes check 9.
+    fn has_length_ratio(self) -> bool
+        requires { ⌜ (self .radius ≤ 50000) × (self .length ≤ 200000) ⌝ }
+        ensures { λ r. ⌜ r ≡ lengthRatio self ⌝ }
+    {
+        if self.radius <= Record::LENGTHS_MOST * self.length {
+            self.length <= Record::RADII_MOST * self.radius
+        } else {
+            false
+        }
+    }
+
+    // The cylinder of a wall: hundredths of a mm in 200ths.
+    fn shell(self) -> Shell
+        requires { ⌜ self .thickness ≤ 10000 ⌝ }
+        ensures { λ r. ⌜ r ≡ shellOf self ⌝ }
+    {
+        Shell {
+            radius: self.radius,
+            wall: 2 * self.thickness,
+            length: self.length,
+            modulus: self.modulus,
+            yield_stress: self.yield_stress,
+            edges: self.edges,
+            imperfection: self.imperfection,
+        }
+    }
+}
+
+impl Group {
+    // Whether each stress lies in its range.
+    fn has_stresses(self) -> bool
+        ensures { λ r. ⌜ r ≡ stresses self ⌝ }
+    {
+        if self.axial <= Record::STRESS_MOST {
+            if self.ring <= Record::STRESS_MOST {
+                self.shear <= Record::STRESS_MOST
+            } else {
+                false
+            }
+        } else {
+            false
+        }
+    }
 }
 
 impl Record {
@@ -60,54 +184,32 @@ impl Record {
 
     pub const IMPERFECTION_MOST: u64 = 2000;
 
-    // Whether radius, wall and length lie in their ranges.
-    fn has_dimensions(self) -> bool
-        ensures { λ r. ⌜ r ≡ dimensions self ⌝ }
-    {
-        if in_range(self.radius, Self::RADIUS_LEAST, Self::RADIUS_MOST) {
-            if in_range(self.wall, Self::WALL_LEAST, Self::WALL_MOST) {
-                in_range(self.length, Self::LENGTH_LEAST, Self::LENGTH_MOST)
-            } else {
-                false
-            }
-        } else {
-            false
-        }
-    }
+    // edges: both held axially, one, none
+    pub const EDGES_HELD: u64 = 11;
 
-    // Whether modulus and yield stress lie in their ranges.
-    fn has_material(self) -> bool
-        ensures { λ r. ⌜ r ≡ material self ⌝ }
-    {
-        if in_range(self.modulus, Self::MODULUS_LEAST, Self::MODULUS_MOST) {
-            in_range(self.yield_stress, Self::YIELD_LEAST, Self::YIELD_MOST)
-        } else {
-            false
-        }
-    }
+    pub const EDGES_MIXED: u64 = 12;
 
-    // Whether each stress lies in its range.
-    fn has_stresses(self) -> bool
-        ensures { λ r. ⌜ r ≡ stresses self ⌝ }
-    {
-        if self.axial <= Self::STRESS_MOST {
-            if self.ring <= Self::STRESS_MOST {
-                self.shear <= Self::STRESS_MOST
-            } else {
-                false
-            }
-        } else {
-            false
-        }
-    }
+    pub const EDGES_FREE: u64 = 22;
+
+    // a radius in wall thicknesses
+    pub const THICKNESSES_LEAST: u64 = 20;
+
+    pub const THICKNESSES_MOST: u64 = 2500;
+
+    // a radius in lengths, and a length in radii
+    pub const LENGTHS_MOST: u64 = 20;
+
+    pub const RADII_MOST: u64 = 50;
 
     // Whether the record passes check 6.
     fn is_in_range(self) -> bool
         ensures { λ r. ⌜ r ≡ inRange self ⌝ }
     {
-        if self.has_dimensions() {
-            if self.has_material() {
-                self.has_stresses()
+        let wall = self.wall;
+        let group = self.group;
+        if wall.has_dimensions() {
+            if wall.has_material() {
+                group.has_stresses()
             } else {
                 false
             }
@@ -116,81 +218,48 @@ impl Record {
         }
     }
 
-    // Whether the record passes check 7.
-    fn has_known_edges(self) -> bool
-        ensures { λ r. ⌜ r ≡ edgesKnown self ⌝ }
+    // The judgement of a record that breaks no check.
+    fn judgement(self) -> Judgement
+        requires { ⌜ AllPassed (checks self) ⌝ }
+        ensures { λ r. ⌜ r ≡ judgementOfRecord self ⌝ }
     {
-        if self.edges == 11 {
-            return true;
-        }
-        if self.edges == 12 {
-            return true;
-        }
-        self.edges == 22
+        let wall = self.wall;
+        let group = self.group;
+        let s = wall.shell();
+        let x = load(group.axial);
+        let y = load(group.ring);
+        let z = load(group.shear);
+        let b = bounds::of_sum(s, x, y, z, 0);
+        Judgement::by_bounds(b.low, b.high)
     }
 
-    // Whether the record passes check 8.
-    fn has_wall_ratio(self) -> bool
-        requires { ⌜ (self .radius ≤ 50000) × (self .wall ≤ 10000) ⌝ }
-        ensures { λ r. ⌜ r ≡ wallRatio self ⌝ }
+    // The answer to a record: the number of the first check that it breaks, or the judgement.
+    fn answer(self) -> Answer
+        ensures { λ r. ⌜ r ≡ recordAnswer self ⌝ }
     {
-        in_range(100 * self.radius, 20 * self.wall, 2500 * self.wall)
-    }
-
-    // Whether the record passes check 9.
-    fn has_length_ratio(self) -> bool
-        requires { ⌜ (self .radius ≤ 50000) × (self .length ≤ 200000) ⌝ }
-        ensures { λ r. ⌜ r ≡ lengthRatio self ⌝ }
-    {
-        if self.radius <= 20 * self.length {
-            self.length <= 50 * self.radius
-        } else {
-            false
-        }
-    }
-
-    // The number of the first check that the record breaks, 6 to 10; 0 where it breaks none.
-    pub fn refusal(self) -> u64
-        ensures { λ r. ⌜ r ≡ refusal self ⌝ }
-    {
+        let wall = self.wall;
         if !self.is_in_range() {
-            return 6;
+            return Answer::Refused(6);
         }
-        if !self.has_known_edges() {
-            return 7;
+        if !wall.has_known_edges() {
+            return Answer::Refused(7);
         }
-        if !self.has_wall_ratio() {
-            return 8;
+        if !wall.has_wall_ratio() {
+            return Answer::Refused(8);
         }
-        if !self.has_length_ratio() {
-            return 9;
+        if !wall.has_length_ratio() {
+            return Answer::Refused(9);
         }
-        if Self::IMPERFECTION_MOST < self.imperfection {
-            return 10;
+        if Self::IMPERFECTION_MOST < wall.imperfection {
+            return Answer::Refused(10);
         }
-        0
+        Answer::Judged(self.judgement())
     }
 
-    // The cylinder of a record that breaks no check: its wall of hundredths of a mm in 200ths.
-    pub fn shell(self) -> Shell
-        requires { ⌜ self .wall ≤ 10000 ⌝ }
-        ensures { λ r. ⌜ r ≡ shellOf self ⌝ }
-    {
-        Shell {
-            radius: self.radius,
-            wall: 2 * self.wall,
-            length: self.length,
-            modulus: self.modulus,
-            yield_stress: self.yield_stress,
-            edges: self.edges,
-            imperfection: self.imperfection,
-        }
-    }
-
-    // The record of ten numbers in the order of a line.
-    pub fn of_numbers(
+    // The answer to the record of ten numbers in the order of a line.
+    pub fn judge(
         radius: u64,
-        wall: u64,
+        thickness: u64,
         length: u64,
         modulus: u64,
         yield_stress: u64,
@@ -199,20 +268,21 @@ impl Record {
         axial: u64,
         ring: u64,
         shear: u64,
-    ) -> Self
-        ensures { λ r. ⌜ r ≡ recordOf radius wall length modulus «yield_stress» edges imperfection axial ring shear ⌝ }
+    ) -> Answer
+        ensures { λ r. ⌜ r ≡ recordAnswer (recordOf radius thickness length modulus «yield_stress» edges imperfection axial ring shear) ⌝ }
+        ensures { λ r. ⌜ Right (recordOf radius thickness length modulus «yield_stress» edges imperfection axial ring shear) r ⌝ }
     {
-        Record {
+        let wall = Wall {
             radius,
-            wall,
+            thickness,
             length,
             modulus,
             yield_stress,
             edges,
             imperfection,
-            axial,
-            ring,
-            shear,
-        }
+        };
+        let group = Group { axial, ring, shear };
+        let c = Record { wall, group };
+        c.answer()
     }
 }

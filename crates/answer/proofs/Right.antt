@@ -1,0 +1,41 @@
+-- Laws of right answers, whatever the checks are and whatever L and U claim. Assumes nothing.
+use mathlib.Core.Path.{_≡_, refl, ap}
+use mathlib.Core.Logic.{_⊎_, inl, inr}
+use mathlib.Core.List.{List}
+use Prim.Native.Nat.{ℕ, _≤_}
+use native.Mathlib.Omega.{arith}
+use Rattle.answer.specs.declared.Judgement.{Judgement}
+use Rattle.answer.specs.declared.Answer.{Answer}
+use Rattle.answer.specs.declared.Answer.the-variants.{Refused, Judged}
+use Rattle.answer.specs.Answers.{verdictOf, judgementOf, Bounded}
+use Rattle.answer.specs.Checks.{Check, FirstBroken, AllPassed}
+use Rattle.answer.specs.Right.{RightBy, refused, judged}
+use Rattle.answer.specs.Answering.{answerBy}
+use Rattle.answer.proofs.Checks.{by-checks, first-once, broken-passed, numbers, Among, first-among}
+
+module _ (ks : List Check) (Claim : ℕ → ℕ → Type 0) where
+  -- the program's way through the checks gives a right answer, if L and U are right wherever no check is broken
+  pub answer-by-right : (L U : ℕ) → (AllPassed ks → Claim L U) → RightBy ks Claim (answerBy ks (Judged (judgementOf L U)))
+  answer-by-right L U claims = go (by-checks ks (Judged (judgementOf L U)))
+    where
+      go : ((n : ℕ) × (FirstBroken ks n × (answerBy ks (Judged (judgementOf L U)) ≡ Refused n))) ⊎ (AllPassed ks × (answerBy ks (Judged (judgementOf L U)) ≡ Judged (judgementOf L U))) →
+          RightBy ks Claim (answerBy ks (Judged (judgementOf L U)))
+      go (inl (n, (f, e))) = rw e (refused n f)
+      go (inr (all, e)) = rw e (judged (judgementOf L U) all (claims all) refl)
+
+  -- L and U are the only free part of an answer: a refusal is the same in every right answer, and so is the verdict for given L and U
+  pub same-refusal : (n : ℕ) (b : Answer) → RightBy ks Claim (Refused n) → RightBy ks Claim b → b ≡ Refused n
+  same-refusal n _ (refused _ f) (refused m g) = ap Refused (first-once ks m n g f)
+  same-refusal n _ (refused _ f) (judged j all c v) = absurd (broken-passed ks n f all)
+
+  pub same-verdict : (i j : Judgement) → RightBy ks Claim (Judged i) → RightBy ks Claim (Judged j) → i .low ≡ j .low → i .high ≡ j .high → i .verdict ≡ j .verdict
+  same-verdict i j (judged _ _ _ v) (judged _ _ _ w) l h = rw (v, w, l, h)
+
+  -- the number of a refusal is that of a check
+  pub refused-among : (n : ℕ) → RightBy ks Claim (Refused n) → Among n (numbers ks)
+  refused-among n (refused _ f) = first-among ks n f
+
+  -- L and U fit the number of an answer, if what they claim limits them
+  pub right-bounded : ((L U : ℕ) → Claim L U → (L ≤ 20000) × (U ≤ 20000)) → (a : Answer) → RightBy ks Claim a → Bounded a
+  right-bounded limit _ (refused n f) = tt
+  right-bounded limit _ (judged j all c v) = limit (j .low) (j .high) c

@@ -1,0 +1,74 @@
+-- The program's answer to a record is Right: refused by the first check that is broken and never otherwise, else judged with bounds that hold.
+-- What follows of right answers: the verdicts, the numbers of refusals, and that L and U are the only free part. Assumes nothing.
+use mathlib.Core.Path.{_≡_, refl, sym, ap, _∙_}
+use mathlib.Core.List.{[], _∷_}
+use Prim.Native.Nat.{ℕ, _+_, _≤_, _<_}
+use native.Mathlib.Omega.{arith}
+use lib.Dec.{lit≤}
+use Rattle.cylinder.specs.Fraction.{whole}
+use Rattle.cylinder.specs.Exact.{AtMost, AtLeast, Encloses, Close}
+use Rattle.cylinder.specs.Search.{sumBounds}
+use Rattle.cylinder.proofs.SumBounds.{sum-bounds-within}
+use Rattle.cylinder.proofs.Verdict
+use Rattle.answer.specs.declared.Verdict.{Verdict}
+use Rattle.answer.specs.declared.Verdict.the-variants.{Holds, Fails, Open}
+use Rattle.answer.specs.declared.Judgement.{Judgement}
+use Rattle.answer.specs.declared.Answer.{Answer}
+use Rattle.answer.specs.declared.Answer.the-variants.{Refused, Judged}
+use Rattle.answer.specs.Answers.{verdictOf, Bounded}
+use Rattle.answer.specs.Checks.{AllPassed}
+use Rattle.answer.specs.Right.{RightBy, refused, judged}
+use Rattle.answer.proofs.Checks.{Among, among-every}
+use Rattle.answer.proofs.Right
+use Rattle.answer.proofs.Verdicts.{verdict-holds, verdict-fails, verdict-open}
+use Rattle.record.specs.declared.Record.{Record}
+use Rattle.record.specs.Limits.{checks, shellOf}
+use Rattle.record.specs.Right.{RecordOver, Bounds, Right}
+use Rattle.record.specs.Answering.{boundsOf, recordAnswer}
+use Rattle.record.proofs.Checks.{shell-within}
+
+pub bounds-right : (c : Record) → AllPassed (checks c) → Bounds c (boundsOf c .low) (boundsOf c .high)
+unfolding boundsOf
+bounds-right c all =
+    let b = sum-bounds-within (shellOf (c .wall)) (shell-within c all) (whole (c .group .axial)) (whole (c .group .ring)) (whole (c .group .shear)) in
+    record { encloses = b .0; close = b .1 }
+
+pub record-right : (c : Record) → Right c (recordAnswer c)
+unfolding recordAnswer
+record-right c = Right.answer-by-right (checks c) (Bounds c) (boundsOf c .low) (boundsOf c .high) (bounds-right c)
+
+module _ (c : Record) where
+  -- a record that is passed as numbers meets 6 to 10 only
+  pub meets : (n : ℕ) → Right c (Refused n) → Among n (6 ∷ 7 ∷ 8 ∷ 9 ∷ 10 ∷ [])
+  meets n r = Right.refused-among (checks c) (Bounds c) n r
+
+  pub refusal-ten : (n : ℕ) → Right c (Refused n) → n ≤ 10
+  refusal-ten n r = among-every (λ m. m ≤ 10) _ n (meets n r) (lit≤ tt, (lit≤ tt, (lit≤ tt, (lit≤ tt, (lit≤ tt, tt)))))
+
+  -- L and U fit the number of an answer
+  pub right-bounded : (a : Answer) → Right c a → Bounded a
+  right-bounded a r = Right.right-bounded (checks c) (Bounds c) (λ L U b. (b .encloses .L-most, b .encloses .U-most)) a r
+
+-- ---- what a verdict says of the exact sum
+
+module _ (c : Record) (j : Judgement) where
+  -- holds only if the exact sum is at most 1
+  pub holds-at-most : Right c (Judged j) → j .verdict ≡ Holds → AtMost (RecordOver c) 1 1
+  holds-at-most (judged _ all b v) h =
+      Verdict.holds-only (RecordOver c) (Verdict.sum-over-down _ _ _) (j .low) (j .high) (b .encloses) (verdict-holds (j .low) (j .high) (sym v ∙ h))
+
+  -- fails only if it is over 1
+  pub fails-over : Right c (Judged j) → j .verdict ≡ Fails → RecordOver c 1 1
+  fails-over (judged _ all b v) h = Verdict.fails-only (RecordOver c) (j .low) (j .high) (b .encloses) (verdict-fails (j .low) (j .high) (sym v ∙ h))
+
+  -- open only if it lies from 0.9999 to 1.0002
+  pub open-near : Right c (Judged j) → j .verdict ≡ Open → AtLeast (RecordOver c) 9999 10000 × AtMost (RecordOver c) 10002 10000
+  open-near (judged _ all b v) h =
+      let (over, under) = verdict-open (j .low) (j .high) (sym v ∙ h) in
+      Verdict.open-only (RecordOver c) (Verdict.sum-over-down _ _ _) (j .low) (j .high) (b .encloses) (b .close) over under
+
+  -- and so from 0.99 to 1.01, the band that document 01 allows
+  pub open-band : Right c (Judged j) → j .verdict ≡ Open → AtLeast (RecordOver c) 99 100 × AtMost (RecordOver c) 101 100
+  open-band (judged _ all b v) h =
+      let (over, under) = verdict-open (j .low) (j .high) (sym v ∙ h) in
+      Verdict.open-band (RecordOver c) (Verdict.sum-over-down _ _ _) (j .low) (j .high) (b .encloses) (omega (arith, b .close)) over under

@@ -1,0 +1,23 @@
+-- How the program answers a record. Nobody has to believe this file: `record-right` (proofs/Right.antt) says that the answer is Right.
+use Rattle.cylinder.specs.Fraction.{whole}
+use Rattle.cylinder.specs.Search.{Pair, sumBounds}
+use Rattle.answer.specs.declared.Judgement.{Judgement}
+use Rattle.answer.specs.declared.Answer.{Answer}
+use Rattle.answer.specs.declared.Answer.the-variants.{Judged}
+use Rattle.answer.specs.Answers.{judgementOf}
+use Rattle.answer.specs.Answering.{answerBy}
+use Rattle.record.specs.declared.Record.{Record}
+use Rattle.record.specs.Limits.{checks, shellOf}
+
+-- L and U, by the one rule of cylinder's Search
+unfoldable pub boundsOf : Record → Pair
+unfolding sumBounds
+boundsOf c = sumBounds 0 (shellOf (c .wall)) (whole (c .group .axial)) (whole (c .group .ring)) (whole (c .group .shear))
+
+abbrev pub judgementOfRecord : Record → Judgement
+judgementOfRecord c = judgementOf (boundsOf c .low) (boundsOf c .high)
+
+-- a refusal where a check is broken, else the judgement by L and U
+unfoldable pub recordAnswer : Record → Answer
+unfolding boundsOf
+recordAnswer c = answerBy (checks c) (Judged (judgementOfRecord c))
