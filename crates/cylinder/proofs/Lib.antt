@@ -1,11 +1,12 @@
 -- The theorems, for whoever believes the definitions:
--- L and U of `judge` are right (judged, judged-within); that whoever places a slenderness or a term by another way has found the same (place-is, most-is)
-pub mod Judge
+-- L and U of `sumBounds` are right (sum-bounds, sum-bounds-within); whoever places a slenderness or a term by another way has found the same (place-is, most-is)
+pub mod SumBounds
 pub mod Search
--- what the verdicts mean; the rows marked P; what document 01 says of the definitions; sums from outside
+-- what the verdicts mean; what document 01 says of the definitions; sums from outside
 pub mod Verdict
-pub mod Trial
 pub mod Paper
+pub mod Jumps
+pub mod Single
 pub mod Outside
 -- The definitions in whole numbers: the same tests of slenderness, the same curves and terms
 pub mod Agree

@@ -21,6 +21,10 @@ pub record Sound (s : Shell) : Type 0 where
   pub imperfect : s .imperfection ≤ 2000
   pub thick : 2 * s .radius ≤ 25 * s .wall
   pub stout : s .length ≤ 50 * s .radius
+  pub modulus-most : s .modulus ≤ 220000
+  pub yield-least : 100 ≤ s .«yield_stress»
+  pub not-thick : s .wall ≤ 10 * s .radius
+  pub not-short : s .radius ≤ 20 * s .length
 
 -- a shell within the limits of document 01 is sound
 pub sound : (s : Shell) → InLimits s → Sound s
@@ -35,6 +39,10 @@ sound s w =
       imperfect = omega arith;
       thick = omega arith;
       stout = omega arith;
+      modulus-most = omega arith;
+      yield-least = omega arith;
+      not-thick = omega arith;
+      not-short = omega arith;
     }
 
 -- four times Cφ, and η

@@ -5,14 +5,14 @@ use mathlib.Core.List.{List, [], _∷_}
 use lib.Dec.{T, leb}
 use Rattle.cylinder.specs.declared.Shell.{Shell}
 use Rattle.cylinder.specs.Fraction.{_//_}
-use Rattle.cylinder.specs.Search.{Pair, judge}
+use Rattle.cylinder.specs.Search.{Pair, sumBounds}
 
 -- the shell's seven numbers; σx, σφ, τ as numerators over a common denominator; the sum in ten-thousandths, rounded down
 row : ℕ → ℕ → ℕ → ℕ → ℕ → ℕ → ℕ → ℕ → ℕ → ℕ → ℕ → ℕ → Bool
-unfolding judge
+unfolding sumBounds
 row r t l e f edges a x y z d sum =
     let s : Shell = record { radius = r; wall = t; length = l; modulus = e; «yield_stress» = f; edges = edges; imperfection = a } in
-    let p : Pair = judge s (x // d) (y // d) (z // d) in
+    let p : Pair = sumBounds 0 s (x // d) (y // d) (z // d) in
     leb (p .low) sum && (leb sum (p .low + 1) && (leb sum (p .high) && leb (p .high) (sum + 2)))
 
 all : List Bool → Bool

@@ -52,7 +52,8 @@ axialShort s = l/r s ↑ 2 atMost tenths 0_5 ↑ 2 ⊗ r/t s
 abbrev pub shortCx : Shell → Number
 shortCx s = exactly (whole 1 ⊕ tenths 1_5 ⊗ r/l s ↑ 2 ⊗ t/r s)
 
--- (30): Cx = 1 - (0.4 (l/r) √(t/r) - 0.2)/η, which is (1 + 0.2/η) - (0.4 (l/r)/η) √(t/r), but at least 0.6
+-- (30): Cx = 1 - (0.4 (l/r) √(t/r) - 0.2)/η, which is (1 + 0.2/η) - (0.4 (l/r)/η) √(t/r), but at least 0.6.
+-- Decision 5: no share of bending, so not (30a).
 abbrev pub longCx : Shell → Number
 longCx s = larger (minusRoot (whole 1 ⊕ tenths 0_2 ⊘ η s) (tenths 0_4 ⊗ l/r s ⊘ η s) (t/r s)) (exactly (tenths 0_6))
 
@@ -73,7 +74,7 @@ ringShort s = l/r s ↑ 2 atMost (hundredths 1_63 ⊗ Cφ s) ↑ 2 ⊗ r/t s
 abbrev pub ringShortStress : Shell → Number
 ringShortStress s = timesRoot (hundredths 0_92 ⊗ Cφ s ⊗ E s ⊗ r/l s ⊗ t/r s) (t/r s)
 
--- (36): E (t/r)² (0.275 + 2.03 (Cφ/((l/r) √(t/r)))⁴); the fourth power of √(t/r) is (t/r)²
+-- (36): E (t/r)² (0.275 + 2.03 (Cφ/((l/r) √(t/r)))⁴); the fourth power of √(t/r) is (t/r)². Decision 1: 003 prints √(r/t).
 abbrev pub ringLongStress : Shell → Number
 ringLongStress s = exactly (E s ⊗ t/r s ↑ 2 ⊗ (thousandths 0_275 ⊕ hundredths 2_03 ⊗ (Cφ s ↑ 4 ⊘ (l/r s ↑ 4 ⊗ t/r s ↑ 2))))
 
@@ -88,6 +89,7 @@ shearShort s = l/r s ↑ 2 atMost tenths 8_7 ↑ 2 ⊗ r/t s
 
 -- (39), (40): 0.75 Cτ E (r/l)^0.5 (t/r)^1.25 with Cτ² = 1 + 42 (r/l)³ (t/r)^1.5.
 -- The square is 0.75² Cτ² E² (r/l) (t/r)² √(t/r), which is 0.75² E² (r/l) (t/r)² times 42 (r/l)³ (t/r)² + 1 √(t/r).
+-- Decision 2: 003 prescribes Cτ = 1 and permits (40).
 abbrev pub shearShortSquare : Shell → Number
 shearShortSquare s =
     scaled (hundredths 0_75 ↑ 2 ⊗ E s ↑ 2 ⊗ r/l s ⊗ t/r s ↑ 2) (plusRoot (whole 42 ⊗ r/l s ↑ 3 ⊗ t/r s ↑ 2) (whole 1) (t/r s))

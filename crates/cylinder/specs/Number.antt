@@ -37,3 +37,7 @@ scaled f a = record { reaches = λ x. a .reaches (x ⊘ f); within = λ x. a .wi
 -- the larger of two numbers
 abbrev pub larger : Number → Number → Number
 larger a b = record { reaches = λ x. a .reaches x || b .reaches x; within = λ x. a .within x && b .within x }
+
+-- u^1.25: it is at least x if u⁵ is at least x⁴
+abbrev pub power-1·25 : Fraction → Number
+power-1·25 u = record { reaches = λ x. x ↑ 4 atMost u ↑ 5; within = λ x. u ↑ 5 atMost x ↑ 4 }

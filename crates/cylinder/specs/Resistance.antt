@@ -58,16 +58,16 @@ branch2 S =
 
 -- ---- reduction, element 204
 
--- (7), ring and shear: 1 for S ≤ 0.4; 0.65/S² from 1.2; 1.274 - 0.686 S between
+-- (7), ring and shear: 1 for S ≤ 0.4; 0.65/S² from 1.2; 1.274 - 0.686 S between. Decision 4: no (7d) to (7g).
 abbrev pub κ1 : Branch1 → Fraction → Fraction
-κ1 B g = pick (B .upTo-0·4) (whole 1) (pick (B .from-1·2) (hundredths 0_65 ⊘ g ↑ 2) (thousandths 1_274 ⊖ thousandths 0_686 ⊗ g))
+κ1 br g = pick (br .upTo-0·4) (whole 1) (pick (br .from-1·2) (hundredths 0_65 ⊘ g ↑ 2) (thousandths 1_274 ⊖ thousandths 0_686 ⊗ g))
 
--- (8), axial: 1 for S ≤ 0.25; 1.233 - 0.933 S up to 1; 0.3/S³ up to 1.5; 0.2/S² above
+-- (8), axial: 1 for S ≤ 0.25; 1.233 - 0.933 S up to 1; 0.3/S³ up to 1.5; 0.2/S² above. Decision 3: no upper end of (8d).
 abbrev pub κ2 : Branch2 → Fraction → Fraction
-κ2 B g =
-    pick (B .upTo-0·25) (whole 1)
-    (pick (B .upTo-1) (thousandths 1_233 ⊖ thousandths 0_933 ⊗ g)
-    (pick (B .upTo-1·5) (tenths 0_3 ⊘ g ↑ 3) (tenths 0_2 ⊘ g ↑ 2)))
+κ2 br g =
+    pick (br .upTo-0·25) (whole 1)
+    (pick (br .upTo-1) (thousandths 1_233 ⊖ thousandths 0_933 ⊗ g)
+    (pick (br .upTo-1·5) (tenths 0_3 ⊘ g ↑ 3) (tenths 0_2 ⊘ g ↑ 2)))
 
 -- ---- tolerance, element 305
 
@@ -85,22 +85,22 @@ tolerance from-1·5 q g = pick from-1·5 (tenths 1_5 ⊖ tenths 0_5 ⊗ q) (whol
 abbrev pub γ1 : Fraction
 γ1 = tenths 1_1
 
--- (13), axial: 1.1 for S ≤ 0.25; 1.45 from 2; 1.1 (1 + 0.318 (S - 0.25)/1.75) between
+-- (13), axial: 1.1 for S ≤ 0.25; 1.45 from 2; 1.1 (1 + 0.318 (S - 0.25)/1.75) between. Decision 12: 2 itself has 1.45.
 abbrev pub γ2 : Branch2 → Fraction → Fraction
-γ2 B g =
-    pick (B .upTo-0·25) (tenths 1_1)
-    (pick (B .from-2) (hundredths 1_45) (tenths 1_1 ⊗ (whole 1 ⊕ thousandths 0_318 ⊗ (g ⊖ hundredths 0_25) ⊘ hundredths 1_75)))
+γ2 br g =
+    pick (br .upTo-0·25) (tenths 1_1)
+    (pick (br .from-2) (hundredths 1_45) (tenths 1_1 ⊗ (whole 1 ⊕ thousandths 0_318 ⊗ (g ⊖ hundredths 0_25) ⊘ hundredths 1_75)))
 
 -- ---- design resistance R in N/mm², elements 203 and 205
 
 -- (4), (9): κ fy over the factor
 abbrev pub axialR : Shell → Branch2 → Fraction → Fraction
-axialR s B g = κ2 B g ⊗ tolerance (B .from-1·5) (q s) g ⊗ fy s ⊘ γ2 B g
+axialR s br g = κ2 br g ⊗ tolerance (br .from-1·5) (q s) g ⊗ fy s ⊘ γ2 br g
 
 -- (5), (10)
 abbrev pub ringR : Shell → Branch1 → Fraction → Fraction
-ringR s B g = κ1 B g ⊗ tolerance (B .from-1·5) (q s) g ⊗ fy s ⊘ γ1
+ringR s br g = κ1 br g ⊗ tolerance (br .from-1·5) (q s) g ⊗ fy s ⊘ γ1
 
--- (6), (11): the square, that of κ fy/√3 over the factor
+-- (6), (11): the square, that of κ fy/√3 over the factor. Decision 11: 003 prints κ = fy/√3.
 abbrev pub shearRSquare : Shell → Branch1 → Fraction → Fraction
-shearRSquare s B g = (κ1 B g ⊗ tolerance (B .from-1·5) (q s) g) ↑ 2 ⊗ (fy s ↑ 2 ⊘ whole 3) ⊘ γ1 ↑ 2
+shearRSquare s br g = (κ1 br g ⊗ tolerance (br .from-1·5) (q s) g) ↑ 2 ⊗ (fy s ↑ 2 ⊘ whole 3) ⊘ γ1 ↑ 2

@@ -1,5 +1,5 @@
 -- The grid, the search on it, and the bounds L and U.
--- Nobody has to believe these definitions: proofs/Judge.antt has that the bounds are right.
+-- Nobody has to believe these definitions: proofs/SumBounds.antt has that the bounds are right.
 use Prim.Native.Nat.{ℕ, zero, suc, _+_, _/_, min}
 use mathlib.Core.Bool.{_&&_}
 use lib.Dec.{leb}
@@ -34,17 +34,26 @@ pub record Pair : Type 0 where
 abbrev pub around : ℕ → Pair
 around b = record { low = b; high = b + 2 }
 
--- a term in millionths; the first number is the numerator of its stress
-unfoldable pub bounds : ℕ → Cut → Term → Pair
-unfolding grid place most
-bounds zero s t = record { low = 0; high = 0 }
-bounds (suc x) s t = let q : ℕ = grid s in around (most t (place s q) q)
+-- a term in millionths, on the grid of 1/q; x is the numerator of its stress
+unfoldable pub termBounds : ℕ → ℕ → Cut → Term → Pair
+unfolding place most
+termBounds q zero s t = record { low = 0; high = 0 }
+termBounds q (suc x) s t = let k : ℕ = place s q in around (most t k q)
 
--- L and U, in ten-thousandths
-unfoldable pub judge : Shell → Fraction → Fraction → Fraction → Pair
-unfolding bounds
-judge s σx σφ τ =
-    let a : Pair = bounds (σx .num) (axialCut s) (axialTerm s σx) in
-    let r : Pair = bounds (σφ .num) (ringCut s) (ringTerm s σφ) in
-    let h : Pair = bounds (τ .num) (shearCut s) (shearTerm s τ) in
-    record { low = min 20000 ((a .low + r .low + h .low) / 100); high = min 20000 ((a .high + r .high + h .high + 99) / 100) }
+abbrev pub axialBounds : Shell → Fraction → Pair
+axialBounds s σ = termBounds (grid (axialCut s)) (σ .num) (axialCut s) (axialTerm s σ)
+
+abbrev pub ringBounds : Shell → Fraction → Pair
+ringBounds s σ = termBounds (grid (ringCut s)) (σ .num) (ringCut s) (ringTerm s σ)
+
+abbrev pub shearBounds : Shell → Fraction → Pair
+shearBounds s τ = termBounds (grid (shearCut s)) (τ .num) (shearCut s) (shearTerm s τ)
+
+-- L and U, in ten-thousandths; `more` is added to the sum on its high side, in millionths
+unfoldable pub sumBounds : ℕ → Shell → Fraction → Fraction → Fraction → Pair
+unfolding grid termBounds
+sumBounds more s σx σφ τ =
+    let a : Pair = axialBounds s σx in
+    let r : Pair = ringBounds s σφ in
+    let h : Pair = shearBounds s τ in
+    record { low = min 20000 ((a .low + r .low + h .low) / 100); high = min 20000 ((a .high + r .high + h .high + more + 99) / 100) }
