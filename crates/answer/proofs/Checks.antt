@@ -3,24 +3,32 @@ use mathlib.Core.Path.{_≡_, refl, sym, _∙_}
 use mathlib.Core.Bool.{Bool, true, false}
 use mathlib.Core.Logic.{_⊎_, inl, inr}
 use mathlib.Core.List.{List, [], _∷_, map}
-use Prim.Native.Nat.{ℕ}
+use Prim.Native.Nat.{ℕ, _≤_, _<_}
+use native.Mathlib.Omega.{arith}
 use Rattle.algebra.proofs.Tests.{clash}
-use Rattle.answer.specs.declared.Answer.{Answer}
-use Rattle.answer.specs.declared.Answer.the-variants.{Refused}
 use Rattle.answer.specs.Checks.{Check, FirstBroken, AllPassed}
-use Rattle.answer.specs.Answering.{answerBy}
+use Rattle.answer.specs.Answering.{firstOr, refusalBy}
 
--- what is answered: a refusal by the first check broken, or, where none is, a
-pub by-checks : (ks : List Check) (a : Answer) →
-    ((n : ℕ) × (FirstBroken ks n × (answerBy ks a ≡ Refused n))) ⊎ (AllPassed ks × (answerBy ks a ≡ a))
-by-checks [] a = inr (tt, refl)
-by-checks (k ∷ ks) a = go (k .passed) refl (by-checks ks a)
+-- what f gives of the first check broken, or, where none is, a
+pub first-or : {A : Type 0} (f : ℕ → A) (a : A) (ks : List Check) →
+    ((n : ℕ) × (FirstBroken ks n × (firstOr f a ks ≡ f n))) ⊎ (AllPassed ks × (firstOr f a ks ≡ a))
+first-or f a [] = inr (tt, refl)
+first-or {A} f a (k ∷ ks) = go (k .passed) refl (first-or f a ks)
   where
-    go : (b : Bool) → k .passed ≡ b → ((n : ℕ) × (FirstBroken ks n × (answerBy ks a ≡ Refused n))) ⊎ (AllPassed ks × (answerBy ks a ≡ a)) →
-        ((n : ℕ) × (FirstBroken (k ∷ ks) n × (answerBy (k ∷ ks) a ≡ Refused n))) ⊎ (AllPassed (k ∷ ks) × (answerBy (k ∷ ks) a ≡ a))
+    go : (b : Bool) → k .passed ≡ b → ((n : ℕ) × (FirstBroken ks n × (firstOr f a ks ≡ f n))) ⊎ (AllPassed ks × (firstOr f a ks ≡ a)) →
+        ((n : ℕ) × (FirstBroken (k ∷ ks) n × (firstOr f a (k ∷ ks) ≡ f n))) ⊎ (AllPassed (k ∷ ks) × (firstOr f a (k ∷ ks) ≡ a))
     go false e r = inl (k .refusal, (inl (e, refl), rw e refl))
-    go true e (inl (n, (f, is))) = inl (n, (inr (e, f), rw e is))
+    go true e (inl (n, (g, is))) = inl (n, (inr (e, g), rw e is))
     go true e (inr (all, is)) = inr ((e, all), rw e is)
+
+-- where a check is broken, and where none is
+pub first-broken : {A : Type 0} (f : ℕ → A) (a : A) (ks : List Check) (n : ℕ) → FirstBroken ks n → firstOr f a ks ≡ f n
+first-broken f a (k ∷ ks) n (inl (e, is)) = rw (e, is) refl
+first-broken f a (k ∷ ks) n (inr (e, g)) = rw e (first-broken f a ks n g)
+
+pub all-passed : {A : Type 0} (f : ℕ → A) (a : A) (ks : List Check) → AllPassed ks → firstOr f a ks ≡ a
+all-passed f a [] all = refl
+all-passed f a (k ∷ ks) (e, all) = rw e (all-passed f a ks all)
 
 -- one check at most is the first broken
 pub first-once : (ks : List Check) (m n : ℕ) → FirstBroken ks m → FirstBroken ks n → m ≡ n
@@ -54,3 +62,20 @@ Every P (m ∷ ms) = P m × Every P ms
 pub among-every : (P : ℕ → Type 0) (ms : List ℕ) (n : ℕ) → Among n ms → Every P ms → P n
 among-every P (m ∷ ms) n (inl e) (p, ps) = rw (← e) p
 among-every P (m ∷ ms) n (inr a) (p, ps) = among-every P ms n a ps
+
+-- ---- for the code: the number 0 says that no check is broken, if no check has it
+
+module _ (ks : List Check) (some : Every (λ m. 0 < m) (numbers ks)) (n : ℕ) (is : n ≡ refusalBy ks) where
+  pub refusal-broken : 0 < n → FirstBroken ks n
+  refusal-broken pos = go (first-or (λ m. m) 0 ks)
+    where
+      go : ((m : ℕ) × (FirstBroken ks m × (refusalBy ks ≡ m))) ⊎ (AllPassed ks × (refusalBy ks ≡ 0)) → FirstBroken ks n
+      go (inl (m, (f, e))) = rw (is ∙ e) f
+      go (inr (all, e)) = absurd (omega (arith, is, e))
+
+  pub refusal-none : n ≤ 0 → AllPassed ks
+  refusal-none z = go (first-or (λ m. m) 0 ks)
+    where
+      go : ((m : ℕ) × (FirstBroken ks m × (refusalBy ks ≡ m))) ⊎ (AllPassed ks × (refusalBy ks ≡ 0)) → AllPassed ks
+      go (inl (m, (f, e))) = absurd (omega (arith, is, e, among-every (λ i. 0 < i) (numbers ks) m (first-among ks m f) some))
+      go (inr (all, e)) = all

@@ -10,16 +10,16 @@ use Rattle.answer.specs.declared.Answer.the-variants.{Refused, Judged}
 use Rattle.answer.specs.Answers.{verdictOf, judgementOf, Bounded}
 use Rattle.answer.specs.Checks.{Check, FirstBroken, AllPassed}
 use Rattle.answer.specs.Right.{RightBy, refused, judged}
-use Rattle.answer.specs.Answering.{answerBy}
-use Rattle.answer.proofs.Checks.{by-checks, first-once, broken-passed, numbers, Among, first-among}
+use Rattle.answer.specs.Answering.{firstOr}
+use Rattle.answer.proofs.Checks.{first-or, first-once, broken-passed, numbers, Among, first-among}
 
 module _ (ks : List Check) (Claim : ℕ → ℕ → Type 0) where
   -- the program's way through the checks gives a right answer, if L and U are right wherever no check is broken
-  pub answer-by-right : (L U : ℕ) → (AllPassed ks → Claim L U) → RightBy ks Claim (answerBy ks (Judged (judgementOf L U)))
-  answer-by-right L U claims = go (by-checks ks (Judged (judgementOf L U)))
+  pub answer-by-right : (L U : ℕ) → (AllPassed ks → Claim L U) → RightBy ks Claim (firstOr Refused (Judged (judgementOf L U)) ks)
+  answer-by-right L U claims = go (first-or Refused (Judged (judgementOf L U)) ks)
     where
-      go : ((n : ℕ) × (FirstBroken ks n × (answerBy ks (Judged (judgementOf L U)) ≡ Refused n))) ⊎ (AllPassed ks × (answerBy ks (Judged (judgementOf L U)) ≡ Judged (judgementOf L U))) →
-          RightBy ks Claim (answerBy ks (Judged (judgementOf L U)))
+      go : ((n : ℕ) × (FirstBroken ks n × (firstOr Refused (Judged (judgementOf L U)) ks ≡ Refused n))) ⊎ (AllPassed ks × (firstOr Refused (Judged (judgementOf L U)) ks ≡ Judged (judgementOf L U))) →
+          RightBy ks Claim (firstOr Refused (Judged (judgementOf L U)) ks)
       go (inl (n, (f, e))) = rw e (refused n f)
       go (inr (all, e)) = rw e (judged (judgementOf L U) all (claims all) refl)
 

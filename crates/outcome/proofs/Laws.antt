@@ -6,23 +6,25 @@ use native.Mathlib.Nat.{zero-add}
 use native.Mathlib.Omega.{arith}
 use mathlib.Core.List.{List, [], _∷_, map}
 use lib.ListN.{length, length-map}
-use lib.Dec.{ltb}
-use borrow.Author.Tests.{ltb-false}
-use mathlib.Core.Bool.{Bool, true, false}
+use lib.Dec.{lit<}
+use borrow.Author.Tests.{leb-true}
 use Rattle.text.specs.Bytes.{put, upTo, after, isNewline, lines}
-use Rattle.algebra.specs.Choice.{pick}
 use Rattle.text.proofs.Laws.{put-all, Wrote, lines-nil, lines-cons}
 use Rattle.answer.specs.declared.Answer.{Answer}
 use Rattle.answer.specs.declared.Answer.the-variants.{Refused}
-use Rattle.reading.specs.Reading.{answerTo}
+use Rattle.answer.specs.Checks.{AllPassed}
+use Rattle.answer.specs.Answering.{refusalBy}
+use Rattle.answer.proofs.Checks.{first-broken, all-passed, refusal-broken, refusal-none}
+use Rattle.reading.specs.Answering.{answerTo}
 use Rattle.reading.proofs.Answers.{answer-right}
 use Rattle.listing.specs.declared.Counts.{Counts}
 use Rattle.listing.specs.Listing.{ended, total, counts, noCounts}
 use Rattle.listing.proofs.Totals.{listing-room}
 use Rattle.listing.proofs.Turns.{Here, here-counts, here-listing}
 use Rattle.outcome.specs.declared.Outcome.{Outcome}
-use Rattle.outcome.proofs.Verdicts.{right-number}
-use Rattle.outcome.specs.Sheet.{answers, listing, turnedBack, accepted, outcome, refusalOf}
+use Rattle.outcome.proofs.Verdicts.{line-refusal}
+use Rattle.outcome.specs.Sheet.{listingBy, sheetChecks, turnedBack}
+use Rattle.outcome.specs.Running.{answers, listing, listedOutcome, outcome}
 
 -- ---- the loop over the lines
 
@@ -40,13 +42,13 @@ answers-none rest done = ap (map answerTo) (lines-nil rest done)
 -- ---- the room that a listing takes
 
 pub sheet-room : (sheet : List ℕ) → length (lines sheet) ≤ 1024 → length (listing sheet) ≤ 24 * length (lines sheet) + 40
-unfolding listing
-sheet-room sheet h = listing-room answerTo (λ l n e. omega (arith, right-number l (answerTo l) (answer-right l) n e)) (lines sheet) h
+unfolding listingBy
+sheet-room sheet h = listing-room answerTo (λ l n e. omega (arith, line-refusal l (answerTo l) (answer-right l) n e)) (lines sheet) h
 
 -- ---- the end of the loop
 
 pub listed : (sheet out out′ : List ℕ) (c : Counts) (r : ℕ) → c ≡ counts (answers sheet) → Wrote out 0 (listing sheet) r out′
-    → _≡_ {A = Outcome} (record { refusal = 0; counts = c; length = r }) (accepted sheet)
+    → _≡_ {A = Outcome} (record { refusal = 0; counts = c; length = r }) (listedOutcome sheet)
 listed sheet out out′ c r e w =
     let len : r ≡ length (listing sheet) = w .0 ∙ zero-add (length (listing sheet)) in
     λ i. record { refusal = 0; counts = e i; length = len i }
@@ -56,48 +58,35 @@ listed sheet out out′ c r e w =
 pub turned-back : (n : ℕ) (c : Counts) → c ≡ noCounts → _≡_ {A = Outcome} (record { refusal = n; counts = c; length = 0 }) (turnedBack n)
 turned-back n c e = λ i. record { refusal = n; counts = e i; length = 0 }
 
--- what holds of a sheet that is not turned back
-pub refusal-none : (sheet : List ℕ) (room n : ℕ) → n ≡ refusalOf sheet room → n ≤ 0
-    → (length sheet ≤ 65535) × (length (lines sheet) ≤ 1024) × (24 * length (lines sheet) + 40 ≤ room)
-unfolding refusalOf
-refusal-none sheet room n e z = go (ltb 65535 (length sheet)) refl (ltb 1024 (length (lines sheet))) refl (ltb room (24 * length (lines sheet) + 40)) refl e
-  where
-    go : (a : Bool) → ltb 65535 (length sheet) ≡ a → (b : Bool) → ltb 1024 (length (lines sheet)) ≡ b → (d : Bool) → ltb room (24 * length (lines sheet) + 40) ≡ d
-        → n ≡ pick a 1 (pick b 2 (pick d 3 0)) → (length sheet ≤ 65535) × (length (lines sheet) ≤ 1024) × (24 * length (lines sheet) + 40 ≤ room)
-    go true ha b hb d hd q = absurd (omega arith)
-    go false ha true hb d hd q = absurd (omega arith)
-    go false ha false hb true hd q = absurd (omega arith)
-    go false ha false hb false hd q = (ltb-false _ _ ha, ltb-false _ _ hb, ltb-false _ _ hd)
+-- a sheet and a buffer that pass every check
+pub record Accepted (sheet : List ℕ) (room : ℕ) : Type 0 where
+  pub short : length sheet ≤ 65535
+  pub few : length (lines sheet) ≤ 1024
+  pub enough : 24 * length (lines sheet) + 40 ≤ room
 
--- the outcome by three tests, where one of them turns the sheet back and where none does
-turned-by : (a b d : Bool) (out : List ℕ) (done : Outcome × List ℕ) → 0 < pick a 1 (pick b 2 (pick d 3 0))
-    → _≡_ {A = Outcome × List ℕ} (turnedBack (pick a 1 (pick b 2 (pick d 3 0))), out) (pick a (turnedBack 1, out) (pick b (turnedBack 2, out) (pick d (turnedBack 3, out) done)))
-turned-by true b d out done h = refl
-turned-by false true d out done h = refl
-turned-by false false true out done h = refl
-turned-by false false false out done h = absurd (omega arith)
+pub accepted : (sheet : List ℕ) (room : ℕ) → AllPassed (sheetChecks sheet room) → Accepted sheet room
+accepted sheet room (s, (f, (e, u))) = record { short = leb-true _ _ s; few = leb-true _ _ f; enough = leb-true _ _ e }
 
-listed-by : (a b d : Bool) (out : List ℕ) (done : Outcome × List ℕ) → pick a 1 (pick b 2 (pick d 3 0)) ≤ 0
-    → done ≡ pick a (turnedBack 1, out) (pick b (turnedBack 2, out) (pick d (turnedBack 3, out) done))
-listed-by true b d out done h = absurd (omega arith)
-listed-by false true d out done h = absurd (omega arith)
-listed-by false false true out done h = absurd (omega arith)
-listed-by false false false out done h = refl
-
-module _ (sheet out : List ℕ) (n : ℕ) (e : n ≡ refusalOf sheet (length out)) where
+module _ (sheet out : List ℕ) (n : ℕ) (e : n ≡ refusalBy (sheetChecks sheet (length out))) where
   pub outcome-turned : 0 < n → (r : Outcome) → r ≡ turnedBack n → _≡_ {A = Outcome × List ℕ} (r, out) (outcome sheet out)
-  unfolding outcome refusalOf
+  unfolding outcome
   outcome-turned h r t =
-      ap (λ (q : Outcome). (q, out)) (t ∙ ap turnedBack e)
-      ∙ turned-by (ltb 65535 (length sheet)) (ltb 1024 (length (lines sheet))) (ltb (length out) (24 * length (lines sheet) + 40)) out _ (omega arith)
+      ap (λ (q : Outcome). (q, out)) t
+      ∙ sym (first-broken (λ m. (turnedBack m, out)) _ (sheetChecks sheet (length out)) n (refusal-broken _ (lit< tt, (lit< tt, (lit< tt, tt))) n e h))
 
   module _ (z : n ≤ 0) where
-    pub outcome-fits : length (listing sheet) ≤ length out
-    outcome-fits = let (s, few, room) = refusal-none sheet (length out) n e z in omega (arith, sheet-room sheet few)
+    passed : AllPassed (sheetChecks sheet (length out))
+    passed = refusal-none _ (lit< tt, (lit< tt, (lit< tt, tt))) n e z
 
-    pub outcome-listed : (r : Outcome) (out′ : List ℕ) → r ≡ accepted sheet → out′ ≡ put out 0 (listing sheet) → _≡_ {A = Outcome × List ℕ} (r, out′) (outcome sheet out)
-    unfolding outcome refusalOf
+    pub outcome-accepted : Accepted sheet (length out)
+    outcome-accepted = accepted sheet (length out) passed
+
+    pub outcome-fits : length (listing sheet) ≤ length out
+    outcome-fits = let a = outcome-accepted in omega (arith, sheet-room sheet (a .few), a .enough)
+
+    pub outcome-listed : (r : Outcome) (out′ : List ℕ) → r ≡ listedOutcome sheet → out′ ≡ put out 0 (listing sheet) → _≡_ {A = Outcome × List ℕ} (r, out′) (outcome sheet out)
+    unfolding outcome
     outcome-listed r out′ a w =
         ap (λ (q : Outcome). (q, out′)) a
-        ∙ ap (λ (l : List ℕ). (accepted sheet, l)) (w ∙ put-all out (listing sheet) outcome-fits)
-        ∙ listed-by (ltb 65535 (length sheet)) (ltb 1024 (length (lines sheet))) (ltb (length out) (24 * length (lines sheet) + 40)) out _ (omega arith)
+        ∙ ap (λ (l : List ℕ). (listedOutcome sheet, l)) (w ∙ put-all out (listing sheet) outcome-fits)
+        ∙ sym (all-passed (λ m. (turnedBack m, out)) _ (sheetChecks sheet (length out)) passed)

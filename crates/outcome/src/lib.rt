@@ -4,7 +4,8 @@ use listing::Counts;
 ghost use mathlib.Core.Path.{_≡_};
 ghost use lib.ListN.{length};
 ghost use Rattle.text.specs.Bytes.{lines};
-ghost use Rattle.outcome.specs.Sheet.{refusalOf};
+ghost use Rattle.answer.specs.Answering.{refusalBy};
+ghost use Rattle.outcome.specs.Sheet.{sheetChecks};
 
 // What a run returns: the refusal's number or 0, the five counts, and the listing's length in bytes.
 pub struct Outcome {
@@ -27,9 +28,9 @@ fn count_lines(sheet: &[u8]) -> u64
     n
 }
 
-// The lowest number by which a sheet is turned back whose listing has so many bytes of room; 0 where it is accepted.
+// The number of the first check by which a sheet is turned back whose listing has so many bytes of room; 0 where it is accepted.
 pub fn refusal(sheet: &[u8], room: u64) -> u64
-    ensures { λ r. ⌜ r ≡ refusalOf (now (sheet .entry)) room ⌝ }
+    ensures { λ r. ⌜ r ≡ refusalBy (sheetChecks (now (sheet .entry)) room) ⌝ }
 {
     if 65535 < sheet.len() {
         return 1;

@@ -30,7 +30,7 @@ use Rattle.record.proofs.Checks.{shell-within}
 pub bounds-right : (c : Record) → AllPassed (checks c) → Bounds c (boundsOf c .low) (boundsOf c .high)
 unfolding boundsOf
 bounds-right c all =
-    let b = sum-bounds-within (shellOf (c .wall)) (shell-within c all) (whole (c .group .axial)) (whole (c .group .ring)) (whole (c .group .shear)) in
+    let b = sum-bounds-within 0 (lit≤ tt) (shellOf (c .wall)) (shell-within c all) (whole (c .group .axial)) (whole (c .group .ring)) (whole (c .group .shear)) in
     record { encloses = b .0; close = b .1 }
 
 pub record-right : (c : Record) → Right c (recordAnswer c)
@@ -43,7 +43,7 @@ module _ (c : Record) where
   meets n r = Right.refused-among (checks c) (Bounds c) n r
 
   pub refusal-ten : (n : ℕ) → Right c (Refused n) → n ≤ 10
-  refusal-ten n r = among-every (λ m. m ≤ 10) _ n (meets n r) (lit≤ tt, (lit≤ tt, (lit≤ tt, (lit≤ tt, (lit≤ tt, tt)))))
+  refusal-ten n r = among-every (λ m. m ≤ 10) (6 ∷ 7 ∷ 8 ∷ 9 ∷ 10 ∷ []) n (meets n r) (lit≤ tt, (lit≤ tt, (lit≤ tt, (lit≤ tt, (lit≤ tt, tt)))))
 
   -- L and U fit the number of an answer
   pub right-bounded : (a : Answer) → Right c a → Bounded a
@@ -55,20 +55,20 @@ module _ (c : Record) (j : Judgement) where
   -- holds only if the exact sum is at most 1
   pub holds-at-most : Right c (Judged j) → j .verdict ≡ Holds → AtMost (RecordOver c) 1 1
   holds-at-most (judged _ all b v) h =
-      Verdict.holds-only (RecordOver c) (Verdict.sum-over-down _ _ _) (j .low) (j .high) (b .encloses) (verdict-holds (j .low) (j .high) (sym v ∙ h))
+      Verdict.holds-only (b .encloses) (Verdict.sum-over-down _ _ _) (verdict-holds (j .low) (j .high) (sym v ∙ h))
 
   -- fails only if it is over 1
   pub fails-over : Right c (Judged j) → j .verdict ≡ Fails → RecordOver c 1 1
-  fails-over (judged _ all b v) h = Verdict.fails-only (RecordOver c) (j .low) (j .high) (b .encloses) (verdict-fails (j .low) (j .high) (sym v ∙ h))
+  fails-over (judged _ all b v) h = Verdict.fails-only (b .encloses) (verdict-fails (j .low) (j .high) (sym v ∙ h))
 
   -- open only if it lies from 0.9999 to 1.0002
   pub open-near : Right c (Judged j) → j .verdict ≡ Open → AtLeast (RecordOver c) 9999 10000 × AtMost (RecordOver c) 10002 10000
   open-near (judged _ all b v) h =
       let (over, under) = verdict-open (j .low) (j .high) (sym v ∙ h) in
-      Verdict.open-only (RecordOver c) (Verdict.sum-over-down _ _ _) (j .low) (j .high) (b .encloses) (b .close) over under
+      Verdict.open-only (b .encloses) (Verdict.sum-over-down _ _ _) (b .close) over under
 
   -- and so from 0.99 to 1.01, the band that document 01 allows
   pub open-band : Right c (Judged j) → j .verdict ≡ Open → AtLeast (RecordOver c) 99 100 × AtMost (RecordOver c) 101 100
   open-band (judged _ all b v) h =
       let (over, under) = verdict-open (j .low) (j .high) (sym v ∙ h) in
-      Verdict.open-band (RecordOver c) (Verdict.sum-over-down _ _ _) (j .low) (j .high) (b .encloses) (omega (arith, b .close)) over under
+      Verdict.open-band (b .encloses) (Verdict.sum-over-down _ _ _) (omega (arith, b .close)) over under

@@ -14,10 +14,10 @@ use Rattle.record.proofs.Right.{bounds-right}
 
 module _ (c : Record) (all : AllPassed (checks c)) where
   up-to : boundsOf c .high ≤ 10000 → UpTo1 c
-  up-to h = Verdict.holds-only (RecordOver c) (Verdict.sum-over-down _ _ _) _ _ (bounds-right c all .encloses) h
+  up-to h = Verdict.holds-only (bounds-right c all .encloses) (Verdict.sum-over-down _ _ _) h
 
   over : 10000 < boundsOf c .low → Over1 c
-  over h = Verdict.fails-only (RecordOver c) _ _ (bounds-right c all .encloses) h
+  over h = Verdict.fails-only (bounds-right c all .encloses) h
 
 pub trial-rows : TrialRows
 unfolding boundsOf

@@ -3,9 +3,9 @@ use Rattle.cylinder.specs.Fraction.{whole}
 use Rattle.cylinder.specs.Search.{Pair, sumBounds}
 use Rattle.answer.specs.declared.Judgement.{Judgement}
 use Rattle.answer.specs.declared.Answer.{Answer}
-use Rattle.answer.specs.declared.Answer.the-variants.{Judged}
+use Rattle.answer.specs.declared.Answer.the-variants.{Refused, Judged}
 use Rattle.answer.specs.Answers.{judgementOf}
-use Rattle.answer.specs.Answering.{answerBy}
+use Rattle.answer.specs.Answering.{firstOr}
 use Rattle.record.specs.declared.Record.{Record}
 use Rattle.record.specs.Limits.{checks, shellOf}
 
@@ -20,4 +20,4 @@ judgementOfRecord c = judgementOf (boundsOf c .low) (boundsOf c .high)
 -- a refusal where a check is broken, else the judgement by L and U
 unfoldable pub recordAnswer : Record → Answer
 unfolding boundsOf
-recordAnswer c = answerBy (checks c) (Judged (judgementOfRecord c))
+recordAnswer c = firstOr Refused (Judged (judgementOfRecord c)) (checks c)
