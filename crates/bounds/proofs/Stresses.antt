@@ -14,7 +14,7 @@ use Rattle.algebra.specs.Choice.{pick}
 use Rattle.cylinder.specs.Cut.{Cut}
 use Rattle.cylinder.specs.WholeTerm.{Term, formula}
 use Rattle.cylinder.specs.WholeStress.{excess}
-use Rattle.cylinder.specs.Search.{grid, place, most, bounds}
+use Rattle.cylinder.specs.Search.{grid, place, most, termBounds}
 use Rattle.cylinder.proofs.Search.{most-edge}
 use Rattle.algebra.proofs.Tests.{and-true}
 use Rattle.ideal.specs.Decision.{cutOf}
@@ -79,12 +79,12 @@ low-most kind s num den = leb-true b 2000000 (and-true (leb b 2000000) (formula 
     b : ℕ
     b = most t k q
 
--- the bounds of a term, for a stress above 0 and for one of 0
-pub loaded : (n : ℕ) (c : Cut) (t : Term) → (n ≡ 0 → ⊥) → (most t (place c (grid c)) (grid c) ≡ bounds n c t .low) × (most t (place c (grid c)) (grid c) + 2 ≡ bounds n c t .high)
-unfolding bounds
-loaded zero c t ne = absurd (ne refl)
-loaded (suc n) c t ne = (refl, refl)
+-- the bounds of a term on the grid of 1/q, for a stress above 0 and for one of 0
+pub loaded : (q n : ℕ) (c : Cut) (t : Term) → (n ≡ 0 → ⊥) → (most t (place c q) q ≡ termBounds q n c t .low) × (most t (place c q) q + 2 ≡ termBounds q n c t .high)
+unfolding termBounds
+loaded q zero c t ne = absurd (ne refl)
+loaded q (suc n) c t ne = (refl, refl)
 
-pub unloaded : (n : ℕ) (c : Cut) (t : Term) → n ≡ 0 → (0 ≡ bounds n c t .low) × (0 ≡ bounds n c t .high)
-unfolding bounds
-unloaded n c t e = rw e (refl, refl)
+pub unloaded : (q n : ℕ) (c : Cut) (t : Term) → n ≡ 0 → (0 ≡ termBounds q n c t .low) × (0 ≡ termBounds q n c t .high)
+unfolding termBounds
+unloaded q n c t e = rw e (refl, refl)

@@ -1,2 +1,3 @@
+-- Nobody has to believe: Sides, Stresses.
 pub mod Sides
 pub mod Stresses

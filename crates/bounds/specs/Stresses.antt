@@ -1,9 +1,8 @@
 -- The three stresses by their kind: one rule for each of slenderness, term and bounds, over the whole-number forms of cylinder's specs.
--- Nobody has to believe these forms: cylinder's proofs/Judge.antt has that the bounds are right.
+-- Nobody has to believe these forms: cylinder's proofs/SumBounds.antt has that the bounds are right.
 use mathlib.Core.Path.{_≡_}
 use mathlib.Core.Bool.{Bool}
-use Prim.Native.Nat.{ℕ, _<_}
-use Rattle.wide.specs.Value.{base}
+use Prim.Native.Nat.{ℕ}
 use Rattle.cylinder.specs.declared.Shell.{Shell}
 use Rattle.cylinder.specs.declared.Stress.{Stress}
 use Rattle.cylinder.specs.declared.Stress.the-variants.{Axial, Ring, Shear}
@@ -14,11 +13,11 @@ use Rattle.cylinder.specs.WholeIdeal.{axialCut, ringCut, shearCut}
 use Rattle.cylinder.specs.WholeCurves as curves
 use Rattle.cylinder.specs.WholeTerm.{Term}
 use Rattle.cylinder.specs.WholeStress.{axialTerm, ringTerm, shearTerm}
-use Rattle.cylinder.specs.Search.{grid, place, most, Pair, bounds}
+use Rattle.cylinder.specs.Search.{grid, place, most, Pair, termBounds}
 use Rattle.bounds.specs.declared.Limits.{Limits}
 use Rattle.term.specs.declared.Branches.{Branches}
 use Rattle.bounds.specs.declared.Load.{Load}
-pub use Rattle.term.specs.TermOf.{partOf}
+pub use Rattle.term.specs.TermOf.{partOf, SmallParts}
 
 -- the branches that the answers at the limits give: of κ1, and of κ2
 abbrev pub part1Of : Limits → curves.Part
@@ -38,9 +37,9 @@ pub record Reads (kind : Stress) (l : Limits) (b : Branches) : Type 0 where
   pub near : b .near ≡ l .«within_quarter»
   pub far : b .far ≡ l .«reaches_two»
 
--- a stress whose parts are below 2³²
+-- a stress that `term` takes
 abbrev pub Small : Load → Type 0
-Small l = (l .num < base) × (l .den < base)
+Small l = SmallParts (l .num) (l .den)
 
 abbrev pub fractionOf : Load → Fraction
 fractionOf l = l .num // l .den
@@ -60,4 +59,4 @@ abbrev pub lowOf : Stress → Shell → ℕ → ℕ → ℕ
 lowOf kind s num den = let c : Cut = slendernessOf kind s in most (termFor kind s (num // den)) (place c (grid c)) (grid c)
 
 abbrev pub pairOf : Stress → Shell → Load → Pair
-pairOf kind s l = bounds (l .num) (slendernessOf kind s) (termFor kind s (fractionOf l))
+pairOf kind s l = let c : Cut = slendernessOf kind s in termBounds (grid c) (l .num) c (termFor kind s (fractionOf l))

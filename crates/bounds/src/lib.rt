@@ -6,11 +6,11 @@ ghost use Prim.Native.Nat.{_*_, _/_, _≤_, _<_, min};
 ghost use Rattle.wide.specs.Value.{base};
 ghost use Rattle.cylinder.specs.InLimits.{InLimits};
 ghost use Rattle.cylinder.specs.WholeStress.{excess as excessOf};
-ghost use Rattle.cylinder.specs.Search.{grid, place as placeOf, judge};
+ghost use Rattle.cylinder.specs.Search.{grid, place as placeOf, sumBounds};
 ghost use Rattle.lengths.specs.Short.{shortOf};
 ghost use Rattle.ideal.specs.Decision.{cutOf};
 ghost use Rattle.bounds.specs.Sides.{Sides};
-ghost use Rattle.bounds.specs.Stresses.{part1Of, part2Of, partFor, partOf, Reads, Small, lowOf, pairOf, fractionOf};
+ghost use Rattle.bounds.specs.Stresses.{part1Of, part2Of, partFor, partOf, Reads, SmallParts, Small, lowOf, pairOf, fractionOf};
 use cylinder::Shell;
 use cylinder::Stress;
 use term::Branches;
@@ -171,7 +171,7 @@ fn excess(s: Shell) -> u64
 
 // The term of a stress above 0 from below, in millionths, up to 2,000,000.
 fn lowest(kind: Stress, s: Shell, num: u64, den: u64) -> u64
-    requires { ⌜ (InLimits s) × (num < base) × (den < base) ⌝ }
+    requires { ⌜ (InLimits s) × (SmallParts num den) ⌝ }
     ensures { λ r. ⌜ r ≡ lowOf kind s num den ⌝ }
 {
     let short = lengths::is_short(kind, s);
@@ -200,16 +200,16 @@ fn capped(x: u64) -> u64
     if x < 20000 { x } else { 20000 }
 }
 
-// L and U of a cylinder under three stresses.
-pub fn of_sum(s: Shell, axial: Load, ring: Load, shear: Load) -> Bounds
-    requires { ⌜ (InLimits s) × (Small axial) × (Small ring) × (Small shear) ⌝ }
-    ensures { λ r. ⌜ (r .low ≡ judge s (fractionOf axial) (fractionOf ring) (fractionOf shear) .low) × (r .high ≡ judge s (fractionOf axial) (fractionOf ring) (fractionOf shear) .high) ⌝ }
+// L and U of a cylinder under three stresses, with some millionths more on the high side.
+pub fn of_sum(s: Shell, axial: Load, ring: Load, shear: Load, more: u64) -> Bounds
+    requires { ⌜ (InLimits s) × (Small axial) × (Small ring) × (Small shear) × (more ≤ 95) ⌝ }
+    ensures { λ r. ⌜ (r .low ≡ sumBounds more s (fractionOf axial) (fractionOf ring) (fractionOf shear) .low) × (r .high ≡ sumBounds more s (fractionOf axial) (fractionOf ring) (fractionOf shear) .high) ⌝ }
 {
     let a = term_bounds(Stress::Axial, s, axial);
     let r = term_bounds(Stress::Ring, s, ring);
     let h = term_bounds(Stress::Shear, s, shear);
     Bounds {
         low: capped((a.low + r.low + h.low) / 100),
-        high: capped((a.high + r.high + h.high + 99) / 100),
+        high: capped((a.high + r.high + h.high + more + 99) / 100),
     }
 }

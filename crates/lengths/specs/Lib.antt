@@ -1,1 +1,2 @@
+-- Nobody has to believe: Short.
 pub mod Short

@@ -1,2 +1,3 @@
+-- Nobody has to believe: Highest, TermsOf.
 pub mod Highest
 pub mod TermsOf

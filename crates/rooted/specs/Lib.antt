@@ -1,1 +1,2 @@
+-- Nobody has to believe: Decision.
 pub mod Decision

@@ -1,1 +1,2 @@
+-- Nobody has to believe: TermOf.
 pub mod TermOf

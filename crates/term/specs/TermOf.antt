@@ -1,7 +1,7 @@
 -- The term of a stress over plain numbers: the branches of its slenderness, the yield stress, the stress as a fraction of kN/m² and the excess of the imperfection.
--- proofs/Terms.antt has that the terms of a shell are these.
+-- Nobody has to believe these forms: proofs/Terms.antt has that the terms of a shell are these.
 use mathlib.Core.Path.{_≡_}
-use Prim.Native.Nat.{ℕ, _*_, _^_}
+use Prim.Native.Nat.{ℕ, _*_, _^_, _<_}
 use Rattle.cylinder.specs.Cut.{Cut}
 use Rattle.cylinder.specs.Factor.{Factor, times}
 use Rattle.cylinder.specs.WholeCurves as curves
@@ -13,6 +13,10 @@ use Rattle.millionths.specs.declared.Power.the-variants.{FiveQuarters, ThreeSqu
 use Rattle.term.specs.declared.Part.{Part}
 use Rattle.term.specs.declared.Part.the-variants.{Plateau, Line, Cubic, Quadratic}
 use Rattle.term.specs.declared.Branches.{Branches}
+
+-- the stresses num/den that are taken: num below 2⁵⁰ and den below 2³⁶, so that 11 num and 10,000 fy den fit a u64
+abbrev pub SmallParts : ℕ → ℕ → Type 0
+SmallParts num den = (num < 1125899906842624) × (den < 68719476736)
 
 abbrev pub partOf : Part → curves.Part
 partOf Plateau = curves.plateau

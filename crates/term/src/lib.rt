@@ -7,7 +7,7 @@ ghost use Rattle.wide.specs.Value.{base};
 ghost use Rattle.factors.specs.Product.{prod};
 ghost use Rattle.cylinder.specs.WholeCurves.{reduction1, reduction2, toleranceFactor, safety};
 ghost use Rattle.cylinder.specs.Search.{most};
-ghost use Rattle.term.specs.TermOf.{partOf, factor1, factor2, factorOf, termOf, powerOf};
+ghost use Rattle.term.specs.TermOf.{SmallParts, partOf, factor1, factor2, factorOf, termOf, powerOf};
 use cylinder::Stress;
 use millionths::Power;
 
@@ -232,7 +232,7 @@ fn power_for(stress: Stress) -> Power
 // The low bound of a stress's term at the slenderness k/q: how many millionths it reaches, up to 2,000,000.
 // The stress is num/den kN/m², the yield stress fy N/mm², the imperfection e thousandths over the permitted one.
 pub fn low(stress: Stress, b: Branches, fy: u64, num: u64, den: u64, e: u64, k: u64, q: u64) -> u64
-    requires { ⌜ (fy ≤ 700) × (num < base) × (den < base) × (e ≤ 1000) × (k < base) × (q ≤ 200000000) ⌝ }
+    requires { ⌜ (fy ≤ 700) × (SmallParts num den) × (e ≤ 1000) × (k < base) × (q ≤ 200000000) ⌝ }
     ensures { λ r. ⌜ r ≡ most (termOf stress b fy num den e) k q ⌝ }
 {
     let f = above(stress, b, e, k, q);

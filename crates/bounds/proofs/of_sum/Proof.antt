@@ -1,7 +1,7 @@
 -- `bounds::of_sum` meets its contract. Assumes nothing.
 use mathlib.Core.Path.{_∙_}
 use borrow.Author.Needs.{needs}
-use Rattle.cylinder.specs.Search.{judge}
+use Rattle.cylinder.specs.Search.{sumBounds}
 use Rattle.bounds.proofs.of_sum.Statement.{statement}
 use Rattle.bounds.proofs.of_sum.Tie as tie
 
@@ -32,11 +32,14 @@ add-capped-4 c = search needs
 add-capped-5 : tie.Need-add-capped-5
 add-capped-5 c = search needs
 
+add-capped-6 : tie.Need-add-capped-6
+add-capped-6 c = search needs
+
 capped-requires-2 : tie.Need-capped-requires-2
 capped-requires-2 c κs = search needs
 
 returns : tie.Need-returns
-unfolding judge
+unfolding sumBounds
 returns c =
     let k = c .before .before .before .before in
     let h = k .before .before .before .before in
@@ -59,5 +62,6 @@ of-sum-spec =
     add-capped-3
     add-capped-4
     add-capped-5
+    add-capped-6
     capped-requires-2
     returns)

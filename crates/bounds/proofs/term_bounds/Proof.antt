@@ -3,6 +3,7 @@ use mathlib.Core.Path.{_≡_, _∙_}
 use Prim.Native.Nat.{ℕ, _+_}
 use native.Mathlib.Omega.{arith}
 use borrow.Author.Needs.{needs}
+use Rattle.cylinder.specs.Search.{grid}
 use Rattle.bounds.specs.Stresses.{slendernessOf, termFor, fractionOf, lowOf}
 use Rattle.bounds.proofs.Stresses.{loaded, unloaded, low-most}
 use Rattle.bounds.proofs.term_bounds.Statement.{statement}
@@ -11,7 +12,8 @@ use Rattle.bounds.proofs.term_bounds.Tie as tie
 returns : tie.Need-returns
 returns c =
     let a = c .before .before .args in
-    let u = unloaded (a .load .num) (slendernessOf (a .kind) (a .s)) (termFor (a .kind) (a .s) (fractionOf (a .load))) (c .if1 .taken) in
+    let k = slendernessOf (a .kind) (a .s) in
+    let u = unloaded (grid k) (a .load .num) k (termFor (a .kind) (a .s) (fractionOf (a .load))) (c .if1 .taken) in
     (u .0, u .1, omega arith, omega arith)
 
 lowest-requires : tie.Need-lowest-requires
@@ -25,7 +27,8 @@ returns-2 c =
     let a = c .before .before .before .args in
     let m = low-most (a .kind) (a .s) (a .load .num) (a .load .den) in
     let e : c .lowest .result ≡ lowOf (a .kind) (a .s) (a .load .num) (a .load .den) = c .lowest .ensures in
-    let u = loaded (a .load .num) (slendernessOf (a .kind) (a .s)) (termFor (a .kind) (a .s) (fractionOf (a .load))) (c .before .if1 .left) in
+    let k = slendernessOf (a .kind) (a .s) in
+    let u = loaded (grid k) (a .load .num) k (termFor (a .kind) (a .s) (fractionOf (a .load))) (c .before .if1 .left) in
     (e ∙ u .0, rw e (u .1), omega arith, omega arith)
 
 pub term-bounds-spec : {M : Type 1} → statement M

@@ -16,7 +16,7 @@ mul-x : tie.Need-mul-x
 mul-x c = search needs
 
 mul-x-2 : tie.Need-mul-x-2
-mul-x-2 c = let a = c .before .args in omega (arith, bounded {a = 10000 * a .fy} {b = a .den} 7000000 4294967295 (omega arith) (omega arith))
+mul-x-2 c = let a = c .before .args in omega (arith, bounded {a = 10000 * a .fy} {b = a .den} 7000000 68719476735 (omega arith) (omega arith))
 
 below-requires : tie.Need-below-requires
 below-requires c κs = search needs
