@@ -1,3 +1,4 @@
 pub mod Checks
+pub mod Loads
 pub mod Right
 pub mod Trial

@@ -1,40 +1,13 @@
-// The judge of one record of document 01, and the call from C.
+// The call from C.
 ghost use mathlib.Core.Path.{_≡_};
-ghost use Rattle.answer.specs.Answers.{number};
+ghost use Rattle.answer.specs.Answers.{answerNumber};
+ghost use Rattle.answer.specs.Right.{NumberOfRight};
 ghost use Rattle.record.specs.Limits.{recordOf};
-ghost use Rattle.record.specs.Judged.{judged};
-use answer::Answer;
-use bounds::Load;
+ghost use Rattle.record.specs.Right.{Right};
+ghost use Rattle.record.specs.Answering.{recordAnswer};
 use record::Record;
 
-// The answer to a record: the number of the first check that it breaks, or the verdict by L and U.
-pub fn answer(c: Record) -> Answer
-    ensures { λ r. ⌜ r ≡ judged c ⌝ }
-{
-    let n = c.refusal();
-    if n == 0 {
-        let b = bounds::of_sum(
-            c.shell(),
-            Load {
-                num: c.axial,
-                den: 1,
-            },
-            Load {
-                num: c.ring,
-                den: 1,
-            },
-            Load {
-                num: c.shear,
-                den: 1,
-            },
-        );
-        Answer::by_bounds(b.low, b.high)
-    } else {
-        Answer::Refused(n)
-    }
-}
-
-// The call from C: ten numbers in the order of a line, and the number of the answer. Nothing is changed.
+// Ten numbers in the order of a line, and the number of the answer. Nothing is changed.
 #[no_mangle]
 pub extern "C" fn shell_judge(
     r: u64,
@@ -48,9 +21,9 @@ pub extern "C" fn shell_judge(
     sphi: u64,
     tau: u64,
 ) -> u64
-    ensures { λ n. ⌜ n ≡ number (judged (recordOf r t l e fy edges a sx sphi tau)) ⌝ }
+    ensures { λ n. ⌜ n ≡ answerNumber (recordAnswer (recordOf r t l e fy edges a sx sphi tau)) ⌝ }
+    ensures { λ n. ⌜ NumberOfRight (Right (recordOf r t l e fy edges a sx sphi tau)) n ⌝ }
 {
-    let c = Record::of_numbers(r, t, l, e, fy, edges, a, sx, sphi, tau);
-    let given = answer(c);
+    let given = Record::judge(r, t, l, e, fy, edges, a, sx, sphi, tau);
     given.number()
 }
