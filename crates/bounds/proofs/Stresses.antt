@@ -1,6 +1,6 @@
 -- The three stresses by their kind: what the code's pieces give is the rule of cylinder's Search. Assumes nothing.
-use mathlib.Core.Path.{_≡_, refl, sym, ap, _∙_}
-use mathlib.Core.Bool.{Bool, true, false, _&&_}
+use mathlib.Core.Path.{_≡_, refl, _∙_}
+use mathlib.Core.Bool.{Bool}
 use mathlib.Core.Logic.{_≢_}
 use Prim.Native.Nat.{ℕ, zero, suc, _+_, _≤_}
 use native.Mathlib.Omega.{arith}
@@ -10,7 +10,6 @@ use Rattle.cylinder.specs.declared.Shell.{Shell}
 use Rattle.cylinder.specs.declared.Stress.{Stress}
 use Rattle.cylinder.specs.declared.Stress.the-variants.{Axial, Ring, Shear}
 use Rattle.cylinder.specs.Fraction.{Fraction, _//_}
-use Rattle.algebra.specs.Choice.{pick}
 use Rattle.cylinder.specs.Cut.{Cut}
 use Rattle.cylinder.specs.WholeTerm.{Term, formula}
 use Rattle.cylinder.specs.WholeStress.{excess}
@@ -21,7 +20,7 @@ use Rattle.ideal.specs.Decision.{cutOf}
 use Rattle.lengths.specs.Short.{shortOf}
 use Rattle.bounds.specs.Sides.{Sides}
 use Rattle.bounds.specs.declared.Limits.{Limits}
-use Rattle.term.specs.TermOf.{termOf, Lies1, Lies2}
+use Rattle.term.specs.TermOf.{termOf}
 use Rattle.term.specs.declared.Branches.{Branches}
 use Rattle.term.proofs.Terms as terms
 use Rattle.cylinder.specs.WholeCurves.{part1, part2}

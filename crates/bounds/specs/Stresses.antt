@@ -1,7 +1,6 @@
 -- The three stresses by their kind: one rule for each of slenderness, term and bounds, over the whole-number forms of cylinder's specs.
 -- Nobody has to believe these forms: cylinder's proofs/SumBounds.antt has that the bounds are right.
 use mathlib.Core.Path.{_≡_}
-use mathlib.Core.Bool.{Bool}
 use Prim.Native.Nat.{ℕ}
 use Rattle.cylinder.specs.declared.Shell.{Shell}
 use Rattle.cylinder.specs.declared.Stress.{Stress}

@@ -2,7 +2,7 @@
 -- each alone; and where it is at most 1, so is the ratio of each stress to its resistance.
 use mathlib.Core.Path.{_≡_, refl}
 use mathlib.Core.Bool.{Bool, true}
-use Prim.Native.Nat.{ℕ, zero, suc, _+_, _*_, _^_, _≤_, _<_}
+use Prim.Native.Nat.{ℕ, zero, suc, _*_, _^_, _≤_, _<_}
 use native.Mathlib.Nat.{mul-le-mul-left, pow-suc}
 use native.Mathlib.Omega.{arith}
 use lib.Dec.{lit<}

@@ -1,6 +1,5 @@
 -- `bounds::term_bounds` meets its contract. Assumes nothing.
 use mathlib.Core.Path.{_≡_, _∙_}
-use Prim.Native.Nat.{ℕ, _+_}
 use native.Mathlib.Omega.{arith}
 use borrow.Author.Needs.{needs}
 use Rattle.cylinder.specs.Search.{grid}
