@@ -1,191 +1,106 @@
--- Reading is the inverse of writing: a line reads as a record exactly if it is the text of that record and each of its numbers has at most 7 digits.
+-- Reading is the inverse of writing: the format of each part, composed as its text is.
 -- Assumes nothing.
-use mathlib.Core.Path.{_≡_, refl, sym, ap, _∙_, subst}
-use Prim.Native.Nat.{ℕ, zero, suc, _+_}
-use mathlib.Core.Logic.{_↔_}
+use mathlib.Core.Path.{_≡_, refl, sym, ap, _∙_}
+use Prim.Native.Nat.{ℕ}
 use native.Mathlib.Omega.{arith}
-use mathlib.Core.Bool.{Bool, true, false}
-use mathlib.Core.List.{List, [], _∷_, _++_, append-assoc, append-nil}
-use lib.ListN.{length, drop, getD, drop-of-length-le}
-use lib.Seq.{drop-append-seam, drop-cons}
-use lib.Dec.{eqb}
-use borrow.Author.Tests.{eqb-true, eq-eqb}
-use Rattle.text.specs.Bytes.{decimal, upTo}
-use Rattle.algebra.specs.Choice.{pick}
-use Rattle.text.proofs.Laws.{upTo-split}
-use Rattle.word.specs.Words.{endsWord}
-use Rattle.word.specs.Numbers.{numberOf}
-use Rattle.word.specs.declared.Numeral.{Numeral}
-use Rattle.word.specs.declared.Numeral.the-variants.{Value, Missing}
-use Rattle.word.proofs.Decimal.{number-decimal, decimal-number, word-decimal}
+use mathlib.Core.List.{List, _++_, append-assoc}
+use mathlib.Core.Logic.{_↔_}
+use Rattle.text.specs.Bytes.{ascii, decimal}
+use Rattle.format.specs.Readers.{whole}
+use Rattle.format.proofs.Formats.{Format, Always, EndsWord, format-number, format-sequence, format-changed, format-as, format-before, format-closed, Whole, spelt, unspelt, none-whole, whole-none, whole-spells, read-whole, format-whole, format-injective}
+use Rattle.record.specs.declared.Wall.{Wall}
+use Rattle.record.specs.declared.Group.{Group}
 use Rattle.record.specs.declared.Record.{Record}
 use Rattle.reading.specs.declared.Form.{Form}
-use Rattle.reading.specs.declared.Form.the-variants.{Read, Other}
-use Rattle.reading.specs.Text.{text, numbers, EachBelow, Small}
-use Rattle.reading.specs.Reading.{startsWith, recordIn, onNumber, readFrom, opening, separators, formOf}
+use Rattle.reading.specs.declared.Form.the-variants.{Read, Refused}
+use Rattle.reading.specs.Text.{wallText, groupText, text, SmallNumber, SmallWall, SmallGroup, Small, Spells}
+use Rattle.reading.specs.Reading.{wallIn, groupIn, recordIn, spaced, wall, group, line, formOf}
 
--- ---- fixed bytes at the start
+-- ---- the parts
 
-starts-append : (w s : List ℕ) → startsWith w (w ++ s) ≡ true
-unfolding startsWith
-starts-append [] s = refl
-starts-append (b ∷ w) s = rw (eq-eqb b b refl) (starts-append w s)
+format-spaced : Format SmallNumber EndsWord (λ n. ascii " " ++ decimal n) spaced
+format-spaced = format-before (ascii " ") format-number
 
-starts-split : (w s : List ℕ) → startsWith w s ≡ true → s ≡ w ++ drop (length w) s
-unfolding startsWith
-starts-split [] s e = refl
-starts-split (b ∷ w) [] e = absurd (let z : _≡_ {A = ℕ} 0 1 = cc in omega arith)
-starts-split (b ∷ w) (c ∷ s) e = go (λ q. starts-split w s q) (eqb b c) refl e
+pub format-wall : Format SmallWall EndsWord wallText wall
+unfolding wall
+format-wall =
+    format-as (λ w h. (h .0, (h .1, (h .2, (h .3, (h .4, (h .5, h .6)))))))
+    (λ w h. (h .0, h .1 .0, h .1 .1 .0, h .1 .1 .1 .0, h .1 .1 .1 .1 .0, h .1 .1 .1 .1 .1 .0, h .1 .1 .1 .1 .1 .1))
+    (λ rest follows. follows) (λ w. simp append-assoc)
+    (format-changed wallIn parts (λ w. refl) (λ p. refl)
+    (format-sequence format-number
+    (format-sequence format-spaced
+    (format-sequence format-spaced
+    (format-sequence format-spaced
+    (format-sequence format-spaced
+    (format-sequence format-spaced format-spaced
+    (λ b rest small follows. refl))
+    (λ b rest small follows. refl))
+    (λ b rest small follows. refl))
+    (λ b rest small follows. refl))
+    (λ b rest small follows. refl))
+    (λ b rest small follows. refl)))
   where
-    go : (startsWith w s ≡ true → s ≡ w ++ drop (length w) s) → (t : Bool) → eqb b c ≡ t → pick t (startsWith w s) false ≡ true → c ∷ s ≡ b ∷ (w ++ drop (length w) s)
-    go on true p q = rw (eqb-true b c p) (ap (λ (l : List ℕ). c ∷ l) (on q))
-    go on false p q = absurd (let z : _≡_ {A = ℕ} 0 1 = cc in omega arith)
+    parts : Wall → ℕ × (ℕ × (ℕ × (ℕ × (ℕ × (ℕ × ℕ)))))
+    parts w = (w .radius, (w .thickness, (w .length, (w .modulus, (w .«yield_stress», (w .edges, w .imperfection))))))
 
--- ---- numbers, each with its separator after it
+-- a space stands before the group
+pub format-group : Format SmallGroup Always (λ g. ascii " " ++ groupText g) group
+unfolding group
+format-group =
+    format-as (λ g h. (h .0, (h .1, h .2))) (λ g h. (h .0, h .1 .0, h .1 .1)) (λ rest follows. follows) (λ g. simp append-assoc)
+    (format-changed groupIn (λ g. (g .axial, (g .ring, g .shear))) (λ g. refl) (λ p. refl)
+    (format-sequence (format-before (ascii " (stress ") format-number)
+    (format-sequence format-spaced (format-closed (ascii ")") (λ rest. refl) format-spaced) (λ b rest small follows. refl))
+    (λ b rest small follows. refl)))
 
-abbrev spelt : List (List ℕ) → List ℕ → List ℕ
-spelt [] ns = []
-spelt (sep ∷ seps) [] = []
-spelt (sep ∷ seps) (n ∷ ns) = decimal n ++ (sep ++ spelt seps ns)
+-- ---- the line
 
--- each separator begins with a byte that ends a word
-abbrev Ends : List (List ℕ) → Type 0
-Ends [] = Unit {0}
-Ends ([] ∷ seps) = ⊥
-Ends ((b ∷ sep) ∷ seps) = (endsWord b ≡ true) × Ends seps
+pub format-line : Format Small Always text line
+unfolding line text Small
+format-line =
+    format-as (λ c h. h) (λ c h. h) (λ rest follows. follows) (λ c. simp append-assoc)
+    (format-changed recordIn (λ c. (c .wall, c .group)) (λ c. refl) (λ p. refl)
+    (format-sequence (format-before (ascii "(shell ") format-wall) (format-closed (ascii ")") (λ rest. tt) format-group) (λ b rest small follows. refl)))
 
--- the text reads as its numbers
-read-spelt : (seps : List (List ℕ)) (v ns : List ℕ) → Ends seps → length ns ≡ length seps → EachBelow 10000000 ns
-    → readFrom seps v (spelt seps ns) ≡ Read (recordIn (v ++ ns))
-unfolding readFrom onNumber
-read-spelt [] v [] ends l small = ap (λ (w : List ℕ). Read (recordIn w)) (sym (append-nil v))
-read-spelt [] v (n ∷ ns) ends l small = absurd (omega arith)
-read-spelt (sep ∷ seps) v [] ends l small = absurd (omega arith)
-read-spelt ([] ∷ seps) v (n ∷ ns) ends l small = absurd ends
-read-spelt ((b ∷ sep) ∷ seps) v (n ∷ ns) ends l small =
-    let word : upTo endsWord (decimal n ++ ((b ∷ sep) ++ spelt seps ns)) ≡ decimal n = word-decimal n b (sep ++ spelt seps ns) (ends .0) in
-    let tail : drop (length (decimal n)) (decimal n ++ ((b ∷ sep) ++ spelt seps ns)) ≡ (b ∷ sep) ++ spelt seps ns = drop-append-seam (decimal n) ((b ∷ sep) ++ spelt seps ns) in
-    let next : drop (length sep) (sep ++ spelt seps ns) ≡ spelt seps ns = drop-append-seam sep (spelt seps ns) in
-    rw (word, number-decimal n (small .0), tail, starts-append (b ∷ sep) (spelt seps ns), next)
-    (read-spelt seps (v ++ (n ∷ [])) ns (ends .1) (omega arith) (small .1) ∙ ap (λ (w : List ℕ). Read (recordIn w)) (append-assoc v (n ∷ []) ns))
-
--- what reads is the text of its numbers
-record Spelt (seps : List (List ℕ)) (v s : List ℕ) (c : Record) : Type 0 where
-  ns : List ℕ
-  many : length ns ≡ length seps
-  small : EachBelow 10000000 ns
-  is : s ≡ spelt seps ns
-  gives : c ≡ recordIn (v ++ ns)
-
-nil-of-length : (s : List ℕ) → length s ≡ 0 → s ≡ []
-nil-of-length [] e = refl
-nil-of-length (b ∷ s) e = absurd (omega arith)
-
-spelt-read : (seps : List (List ℕ)) (v s : List ℕ) (c : Record) → readFrom seps v s ≡ Read c → Spelt seps v s c
-unfolding readFrom onNumber
-spelt-read [] v s c e = go (eqb (length s) 0) refl e
-  where
-    go : (t : Bool) → eqb (length s) 0 ≡ t → pick t (Read (recordIn v)) Other ≡ Read c → Spelt [] v s c
-    go true p q =
-        let same : recordIn v ≡ c = cc in
-        record {
-          ns = [];
-          many = refl;
-          small = tt;
-          is = nil-of-length s (eqb-true (length s) 0 p);
-          gives = sym same ∙ ap recordIn (sym (append-nil v));
-        }
-    go false p q = absurd (let z : _≡_ {A = ℕ} 0 1 = cc in omega arith)
-spelt-read (sep ∷ seps) v s c e = by-number (λ n q. spelt-read seps (v ++ (n ∷ [])) (drop (length sep) (drop (length (upTo endsWord s)) s)) c q) (numberOf (upTo endsWord s)) refl e
-  where
-    tail : List ℕ
-    tail = drop (length (upTo endsWord s)) s
-
-    rest : List ℕ
-    rest = drop (length sep) tail
-
-    On : Type 0
-    On = (n : ℕ) → readFrom seps (v ++ (n ∷ [])) rest ≡ Read c → Spelt seps (v ++ (n ∷ [])) rest c
-
-    by-test : On → (n : ℕ) → numberOf (upTo endsWord s) ≡ Value n → (t : Bool) → startsWith sep tail ≡ t → pick t (readFrom seps (v ++ (n ∷ [])) rest) Other ≡ Read c → Spelt (sep ∷ seps) v s c
-    by-test on n p true q r =
-        let i = on n r in
-        let (word, below) = decimal-number (upTo endsWord s) n p in
-        record {
-          ns = n ∷ i .ns;
-          many = ap suc (i .many);
-          small = (below, i .small);
-          is = upTo-split endsWord s ∙ ap (λ (l : List ℕ). upTo endsWord s ++ l) (starts-split sep tail q ∙ ap (λ (l : List ℕ). sep ++ l) (i .is)) ∙ ap (λ (l : List ℕ). l ++ (sep ++ spelt seps (i .ns))) word;
-          gives = i .gives ∙ ap recordIn (append-assoc v (n ∷ []) (i .ns));
-        }
-    by-test on n p false q r = absurd (let z : _≡_ {A = ℕ} 0 1 = cc in omega arith)
-
-    by-number : On → (o : Numeral) → numberOf (upTo endsWord s) ≡ o → onNumber o (λ n. pick (startsWith sep tail) (readFrom seps (v ++ (n ∷ [])) rest) Other) ≡ Read c → Spelt (sep ∷ seps) v s c
-    by-number on Missing p q = absurd (let z : _≡_ {A = ℕ} 0 1 = cc in omega arith)
-    by-number on (Value n) p q = by-test on n p (startsWith sep tail) refl q
-
--- ---- the line of a record
-
-text-spelt : (c : Record) → text c ≡ opening ++ spelt separators (numbers c)
-unfolding text
-text-spelt c = refl
-
--- the text of a record whose numbers have at most 7 digits reads as that record
-pub read-text : (c : Record) → Small c → formOf (text c) ≡ Read c
-unfolding formOf Small
-read-text c small =
-    rw (text-spelt c, starts-append opening (spelt separators (numbers c)))
-    (read-spelt separators [] (numbers c) (refl, (refl, (refl, (refl, (refl, (refl, (refl, (refl, (refl, (refl, tt)))))))))) refl small)
-
--- k elements from the index j on
-front : ℕ → ℕ → List ℕ → List ℕ
-front zero j ns = []
-front (suc k) j ns = getD ns j 0 ∷ front k (suc j) ns
-
-front-drop : (k j : ℕ) (ns : List ℕ) → length ns ≡ j + k → front k j ns ≡ drop j ns
-unfolding front
-front-drop zero j ns l = sym (drop-of-length-le ns {i = j} (omega arith))
-front-drop (suc k) j ns l =
-    ap (λ (r : List ℕ). getD ns j 0 ∷ r) (front-drop k (suc j) ns (omega arith)) ∙ sym (drop-cons ns j 0 (omega arith))
-
-numbers-in : (ns : List ℕ) → length ns ≡ 10 → numbers (recordIn ns) ≡ ns
-unfolding front
-numbers-in ns l = front-drop 10 0 ns l
-
-text-in : (ns : List ℕ) (c : Record) → length ns ≡ 10 → c ≡ recordIn ns → opening ++ spelt separators ns ≡ text c
-text-in ns c l gives =
-    ap (λ (m : List ℕ). opening ++ spelt separators m) (sym (numbers-in ns l)) ∙ sym (text-spelt (recordIn ns)) ∙ ap text (sym gives)
-
-small-in : (ns : List ℕ) (c : Record) → length ns ≡ 10 → c ≡ recordIn ns → EachBelow 10000000 ns → Small c
-unfolding Small
-small-in ns c l gives below = subst (λ (d : Record). Small d) (sym gives) (subst (λ (m : List ℕ). EachBelow 10000000 m) (sym (numbers-in ns l)) below)
-
--- a line that reads as a record is its text, and each of the numbers has at most 7 digits
-pub text-read : (l : List ℕ) (c : Record) → formOf l ≡ Read c → (l ≡ text c) × Small c
-unfolding formOf
-text-read l c e = go (startsWith opening l) refl e
-  where
-    go : (t : Bool) → startsWith opening l ≡ t → pick t (readFrom separators [] (drop 7 l)) Other ≡ Read c → (l ≡ text c) × Small c
-    go true p q =
-        let i = spelt-read separators [] (drop 7 l) c q in
-        (starts-split opening l p ∙ ap (λ (r : List ℕ). opening ++ r) (i .is) ∙ text-in (i .ns) c (i .many) (i .gives), small-in (i .ns) c (i .many) (i .gives) (i .small))
-    go false p q = absurd (let z : _≡_ {A = ℕ} 0 1 = cc in omega arith)
+-- the form of a line: either it spells a record and is read as it, or it spells none and is refused by 5
+pub form-right : (l : List ℕ) → Whole (Spells l) Read (Refused 5) (formOf l)
+unfolding Spells formOf
+form-right l = format-whole format-line tt Read (Refused 5) l
 
 -- ---- what follows
 
--- a line is not the form exactly if it is the text of no such record
-pub other-text : (l : List ℕ) → (formOf l ≡ Other) ↔ ((c : Record) → Small c → l ≡ text c → ⊥)
-other-text l = (λ e c small is. differ c (sym e ∙ ap formOf is ∙ read-text c small), λ without. by-form without (formOf l) refl)
+apart : (c : Record) → _≡_ {A = Form} (Read c) (Refused 5) → ⊥
+apart c e = let z : _≡_ {A = ℕ} 0 1 = cc in omega arith
+
+same : (c d : Record) → Read c ≡ Read d → c ≡ d
+same c d e = cc
+
+-- a line that spells a record is read as it
+pub read-text : (l : List ℕ) (c : Record) → Spells l c → formOf l ≡ Read c
+unfolding Spells formOf
+read-text l c is = ap (whole Read (Refused 5)) (read-whole format-line tt c l (is .0) (is .1))
+
+-- and only such a line is
+pub text-read : (l : List ℕ) (c : Record) → formOf l ≡ Read c → Spells l c
+text-read l c e = whole-spells apart same (formOf l) (form-right l) c e
+
+-- a line is refused exactly if it spells no record
+pub other-text : (l : List ℕ) → (formOf l ≡ Refused 5) ↔ ((c : Record) → Spells l c → ⊥)
+other-text l = (λ e. whole-none apart (formOf l) (form-right l) e, λ without. none-whole (formOf l) (form-right l) without)
+
+-- and by no other number
+pub refused-five : (l : List ℕ) (n : ℕ) → formOf l ≡ Refused n → n ≡ 5
+refused-five l n e = go (formOf l) (form-right l) e
   where
-    differ : (c : Record) → Other ≡ Read c → ⊥
-    differ c e = let z : _≡_ {A = ℕ} 0 1 = cc in omega arith
+    go : (f : Form) → Whole (Spells l) Read (Refused 5) f → f ≡ Refused n → n ≡ 5
+    go _ (spelt c is) q = absurd (let z : _≡_ {A = ℕ} 0 1 = cc in omega arith)
+    go _ (unspelt none) q = cc
 
-    by-form : ((c : Record) → Small c → l ≡ text c → ⊥) → (f : Form) → formOf l ≡ f → f ≡ Other
-    by-form without Other e = refl
-    by-form without (Read c) e = let (is, small) = text-read l c e in absurd (without c small is)
+-- a line spells at most one record
+pub spells-once : (l : List ℕ) (c d : Record) → Spells l c → Spells l d → c ≡ d
+spells-once l c d is is′ = same c d (sym (read-text l c is) ∙ read-text l d is′)
 
--- no two such records have the same text
+-- no two records have the same text
 pub text-injective : (c d : Record) → Small c → Small d → text c ≡ text d → c ≡ d
-text-injective c d small small′ e =
-    let same : Read c ≡ Read d = sym (read-text c small) ∙ ap formOf e ∙ read-text d small′ in
-    cc
+text-injective c d small small′ e = format-injective format-line tt c d small small′ e

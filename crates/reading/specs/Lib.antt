@@ -1,4 +1,8 @@
--- To be believed, beside document 01: Text, Answers. Reading is how the program does it.
+-- To be believed, beside document 01: Text, Answers.
 pub mod Text
-pub mod Reading
 pub mod Answers
+-- Nobody has to believe these, how the program reads and answers a line: `form-right` (proofs/Inverse.antt) says what `formOf` gives, and
+-- `answer-right` (proofs/Answers.antt) what `answerTo` gives.
+pub mod Reading
+pub mod Parts
+pub mod Answering

@@ -1,59 +1,53 @@
 -- Document 01, "The sheet": the line of a record.
 use Prim.Native.Nat.{ℕ, _<_}
-use mathlib.Core.List.{List, [], _∷_, _++_}
+use mathlib.Core.Path.{_≡_}
+use mathlib.Core.List.{List, _++_}
 use Rattle.text.specs.Bytes.{ascii, decimal}
+use Rattle.record.specs.declared.Wall.{Wall}
+use Rattle.record.specs.declared.Group.{Group}
 use Rattle.record.specs.declared.Record.{Record}
 
--- lists one after the other
-abbrev pub joined : List (List ℕ) → List ℕ
-joined [] = []
-joined (x ∷ xs) = x ++ joined xs
+-- r t l E fy edges a: one space between items, numbers in decimal without leading zeros
+abbrev pub wallText : Wall → List ℕ
+wallText w =
+    decimal (w .radius)
+    ++ ascii " " ++ decimal (w .thickness)
+    ++ ascii " " ++ decimal (w .length)
+    ++ ascii " " ++ decimal (w .modulus)
+    ++ ascii " " ++ decimal (w .«yield_stress»)
+    ++ ascii " " ++ decimal (w .edges)
+    ++ ascii " " ++ decimal (w .imperfection)
 
--- (shell r t l E fy edges a (stress σx σφ τ)): one space between items, none elsewhere, numbers in decimal without leading zeros
+-- (stress σx σφ τ)
+abbrev pub groupText : Group → List ℕ
+groupText g = ascii "(stress " ++ decimal (g .axial) ++ ascii " " ++ decimal (g .ring) ++ ascii " " ++ decimal (g .shear) ++ ascii ")"
+
+-- (shell r t l E fy edges a (stress σx σφ τ))
 unfoldable pub text : Record → List ℕ
-text c =
-    joined (ascii "(shell "
-    ∷ decimal (c .radius)
-    ∷ ascii " "
-    ∷ decimal (c .wall)
-    ∷ ascii " "
-    ∷ decimal (c .length)
-    ∷ ascii " "
-    ∷ decimal (c .modulus)
-    ∷ ascii " "
-    ∷ decimal (c .«yield_stress»)
-    ∷ ascii " "
-    ∷ decimal (c .edges)
-    ∷ ascii " "
-    ∷ decimal (c .imperfection)
-    ∷ ascii " (stress "
-    ∷ decimal (c .axial)
-    ∷ ascii " "
-    ∷ decimal (c .ring)
-    ∷ ascii " "
-    ∷ decimal (c .shear)
-    ∷ ascii "))"
-    ∷ [])
+text c = ascii "(shell " ++ wallText (c .wall) ++ ascii " " ++ groupText (c .group) ++ ascii ")"
 
--- the ten numbers, in the order of a line
-abbrev pub numbers : Record → List ℕ
-numbers c =
-    c .radius
-    ∷ c .wall
-    ∷ c .length
-    ∷ c .modulus
-    ∷ c .«yield_stress»
-    ∷ c .edges
-    ∷ c .imperfection
-    ∷ c .axial
-    ∷ c .ring
-    ∷ c .shear
-    ∷ []
+-- ---- each number has at most 7 digits
 
-abbrev pub EachBelow : ℕ → List ℕ → Type 0
-EachBelow m [] = Unit {0}
-EachBelow m (n ∷ ns) = (n < m) × EachBelow m ns
+abbrev pub SmallNumber : ℕ → Type 0
+SmallNumber n = n < 10000000
 
--- each of the ten numbers has at most 7 digits
+abbrev pub SmallWall : Wall → Type 0
+SmallWall w =
+    SmallNumber (w .radius)
+    × SmallNumber (w .thickness)
+    × SmallNumber (w .length)
+    × SmallNumber (w .modulus)
+    × SmallNumber (w .«yield_stress»)
+    × SmallNumber (w .edges)
+    × SmallNumber (w .imperfection)
+
+abbrev pub SmallGroup : Group → Type 0
+SmallGroup g = SmallNumber (g .axial) × SmallNumber (g .ring) × SmallNumber (g .shear)
+
 unfoldable pub Small : Record → Type 0
-Small c = EachBelow 10000000 (numbers c)
+Small c = SmallWall (c .wall) × SmallGroup (c .group)
+
+-- the line l spells the record c: it is the text of c, whose numbers have at most 7 digits
+unfoldable pub Spells : List ℕ → Record → Type 0
+unfolding text Small
+Spells l c = Small c × (l ≡ text c)

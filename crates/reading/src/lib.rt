@@ -1,107 +1,109 @@
-// One line of a sheet: the record that it spells.
+// One line of a sheet: the record that it spells, composed of its parts.
+use format::FixedAt;
+use format::NumberAt;
+use format::fixed_at;
+use format::number_after;
+use format::number_at;
+use record::Group;
 use record::Record;
-use word::Numeral;
-use word::next_word;
-use word::number_of;
+use record::Wall;
 ghost use mathlib.Core.Path.{_≡_};
-ghost use mathlib.Core.List.{[]};
-ghost use Prim.Native.Nat.{_<_};
-ghost use lib.ListN.{getD};
-ghost use Rattle.reading.specs.Reading.{startsWith, separators, taken, recordIn, formOf};
+ghost use Rattle.format.specs.Places.{Answers};
+ghost use Rattle.reading.specs.Reading.{wall, group, formOf};
+ghost use Rattle.reading.specs.Parts.{wallPart, groupPart};
 
-// What a line is: the text of a record, or not the form.
+// What a line is: the text of a record, or the line's refusal.
 pub enum Form {
     Read(Record),
-    Other,
+    Refused(u64),
 }
 
-// Whether `word` stands at the start of `rest`.
-fn starts_with(rest: &[u8], word: &[u8]) -> bool
-    ensures { λ r. ⌜ r ≡ startsWith (now (word .entry)) (now (rest .entry)) ⌝ }
+// A part of a line and the place after it, or the line's refusal.
+enum WallAt {
+    Read(Wall, usize),
+    Refused(u64),
+}
+
+enum GroupAt {
+    Read(Group, usize),
+    Refused(u64),
+}
+
+// r t l E fy edges a
+fn wall_at(line: &[u8], at: usize) -> WallAt
+    ensures { λ r. ⌜ Answers wall (now (line .entry)) at (wallPart r) ⌝ }
 {
-    if rest.len() < word.len() {
-        return false;
-    }
-    let mut i = 0;
-    while i < word.len() {
-        if rest[i] != word[i] {
-            return false;
-        }
-        i += 1;
-    }
-    true
+    let NumberAt::Read(radius, at) = number_at(line, at) else {
+        return WallAt::Refused(5);
+    };
+    let NumberAt::Read(thickness, at) = number_after(line, at, b" ") else {
+        return WallAt::Refused(5);
+    };
+    let NumberAt::Read(length, at) = number_after(line, at, b" ") else {
+        return WallAt::Refused(5);
+    };
+    let NumberAt::Read(modulus, at) = number_after(line, at, b" ") else {
+        return WallAt::Refused(5);
+    };
+    let NumberAt::Read(yield_stress, at) = number_after(line, at, b" ") else {
+        return WallAt::Refused(5);
+    };
+    let NumberAt::Read(edges, at) = number_after(line, at, b" ") else {
+        return WallAt::Refused(5);
+    };
+    let NumberAt::Read(imperfection, at) = number_after(line, at, b" ") else {
+        return WallAt::Refused(5);
+    };
+    let wall = Wall {
+        radius,
+        thickness,
+        length,
+        modulus,
+        yield_stress,
+        edges,
+        imperfection,
+    };
+    WallAt::Read(wall, at)
 }
 
-// How many bytes `word` has if it stands at the start of `rest`; 0 if it does not.
-fn taken_by(rest: &[u8], word: &[u8]) -> usize
-    ensures { λ r. ⌜ r ≡ taken (now (word .entry)) (now (rest .entry)) ⌝ }
+// (stress σx σφ τ), after a space
+fn group_at(line: &[u8], at: usize) -> GroupAt
+    ensures { λ r. ⌜ Answers group (now (line .entry)) at (groupPart r) ⌝ }
 {
-    if starts_with(rest, word) {
-        word.len()
-    } else {
-        0
-    }
+    let NumberAt::Read(axial, at) = number_after(line, at, b" (stress ") else {
+        return GroupAt::Refused(5);
+    };
+    let NumberAt::Read(ring, at) = number_after(line, at, b" ") else {
+        return GroupAt::Refused(5);
+    };
+    let NumberAt::Read(shear, at) = number_after(line, at, b" ") else {
+        return GroupAt::Refused(5);
+    };
+    let FixedAt::Read(at) = fixed_at(line, at, b")") else {
+        return GroupAt::Refused(5);
+    };
+    let group = Group { axial, ring, shear };
+    GroupAt::Read(group, at)
 }
 
-// How many bytes the separator after number j takes at the start of `rest`; 0 if it does not stand there.
-fn separator(rest: &[u8], j: usize) -> usize
-    requires { ⌜ j < 10 ⌝ }
-    ensures { λ r. ⌜ r ≡ taken (getD separators j []) (now (rest .entry)) ⌝ }
-{
-    if j == 6 {
-        return taken_by(rest, b" (stress ");
-    }
-    if j == 9 {
-        return taken_by(rest, b"))");
-    }
-    taken_by(rest, b" ")
-}
-
-// The record of ten numbers in the order of a line.
-fn record_of(v: &[u64; 10]) -> Record
-    ensures { λ r. ⌜ r ≡ recordIn (now (v .entry)) ⌝ }
-{
-    Record {
-        radius: v[0],
-        wall: v[1],
-        length: v[2],
-        modulus: v[3],
-        yield_stress: v[4],
-        edges: v[5],
-        imperfection: v[6],
-        axial: v[7],
-        ring: v[8],
-        shear: v[9],
-    }
-}
-
-// The record that a line spells.
+// The record that a line spells, or the line's refusal.
 pub fn read(line: &[u8]) -> Form
     ensures { λ r. ⌜ r ≡ formOf (now (line .entry)) ⌝ }
 {
-    if !starts_with(line, b"(shell ") {
-        return Form::Other;
+    let FixedAt::Read(at) = fixed_at(line, 0, b"(shell ") else {
+        return Form::Refused(5);
+    };
+    let WallAt::Read(wall, at) = wall_at(line, at) else {
+        return Form::Refused(5);
+    };
+    let GroupAt::Read(group, at) = group_at(line, at) else {
+        return Form::Refused(5);
+    };
+    let FixedAt::Read(at) = fixed_at(line, at, b")") else {
+        return Form::Refused(5);
+    };
+    if at != line.len() {
+        return Form::Refused(5);
     }
-    let mut v = [0u64; 10];
-    let mut rest = &line[7..];
-    let mut j = 0;
-    while j < 10 {
-        let word = next_word(rest);
-        let Numeral::Value(n) = number_of(word) else {
-            return Form::Other;
-        };
-        v[j] = n;
-        let len = word.len();
-        let tail = &rest[len..];
-        let size = separator(tail, j);
-        if size == 0 {
-            return Form::Other;
-        }
-        rest = &tail[size..];
-        j += 1;
-    }
-    if 0 < rest.len() {
-        return Form::Other;
-    }
-    Form::Read(record_of(&v))
+    Form::Read(Record { wall, group })
 }

@@ -1,0 +1,209 @@
+-- The laws of a format, that is of what is written and what is read: reading is the inverse of writing; and each composition keeps them.
+-- Assumes nothing.
+use mathlib.Core.Path.{_≡_, refl, sym, ap, _∙_, subst}
+use Prim.Native.Nat.{ℕ, _<_}
+use native.Mathlib.Omega.{arith}
+use mathlib.Core.Bool.{Bool, true, false}
+use mathlib.Core.List.{List, [], _∷_, _++_, append-assoc, append-nil}
+use lib.ListN.{length, drop}
+use lib.Seq.{drop-append-seam}
+use lib.Dec.{eqb}
+use borrow.Author.Tests.{eqb-true, eq-eqb}
+use Rattle.algebra.specs.Choice.{pick}
+use Rattle.text.specs.Bytes.{decimal, upTo}
+use Rattle.text.proofs.Laws.{upTo-split}
+use Rattle.word.specs.Words.{endsWord}
+use Rattle.word.specs.Numbers.{numberOf}
+use Rattle.word.specs.declared.Numeral.{Numeral}
+use Rattle.word.specs.declared.Numeral.the-variants.{Value, Missing}
+use Rattle.word.proofs.Decimal.{number-decimal, decimal-number, word-decimal}
+use Rattle.format.specs.Readers.{Found, nothing, found, Reader, on, startsWith, fixed, numberFound, number, sequence, changed, before, closed, whole}
+
+-- values that are Small, written and followed by bytes that may follow, read as themselves; what reads is such a value's text
+pub record Format {A : Type 0} (Small : A → Type 0) (Follows : List ℕ → Type 0) (written : A → List ℕ) (read : Reader A) : Type 0 where
+  pub complete : (a : A) (rest : List ℕ) → Small a → Follows rest → read (written a ++ rest) ≡ found a rest
+  pub sound : (s : List ℕ) (a : A) (rest : List ℕ) → read s ≡ found a rest → Small a × (s ≡ written a ++ rest)
+
+-- ---- of the parts of a composed value: that each is small, and the bytes of each
+
+abbrev pub Both : {A B : Type 0} → (A → Type 0) → (B → Type 0) → A × B → Type 0
+Both S T p = S (p .0) × T (p .1)
+
+abbrev pub both : {A B : Type 0} → (A → List ℕ) → (B → List ℕ) → A × B → List ℕ
+both w v p = w (p .0) ++ v (p .1)
+
+-- nothing is not something
+differ : {A : Type 0} {C : Type 0} (a : A) (rest : List ℕ) → nothing ≡ found a rest → C
+differ a rest e = absurd (let z : _≡_ {A = ℕ} 0 1 = cc in omega arith)
+
+-- ---- fixed bytes, a number
+
+abbrev pub Always : {A : Type 0} → A → Type 0
+Always a = Unit {0}
+
+starts-append : (w s : List ℕ) → startsWith w (w ++ s) ≡ true
+unfolding startsWith
+starts-append [] s = refl
+starts-append (b ∷ w) s = rw (eq-eqb b b refl) (starts-append w s)
+
+starts-split : (w s : List ℕ) → startsWith w s ≡ true → s ≡ w ++ drop (length w) s
+unfolding startsWith
+starts-split [] s e = refl
+starts-split (b ∷ w) [] e = absurd (let z : _≡_ {A = ℕ} 0 1 = cc in omega arith)
+starts-split (b ∷ w) (c ∷ s) e = go (λ q. starts-split w s q) (eqb b c) refl e
+  where
+    go : (startsWith w s ≡ true → s ≡ w ++ drop (length w) s) → (t : Bool) → eqb b c ≡ t → pick t (startsWith w s) false ≡ true → c ∷ s ≡ b ∷ (w ++ drop (length w) s)
+    go on true p q = rw (eqb-true b c p) (ap (λ (l : List ℕ). c ∷ l) (on q))
+    go on false p q = absurd (let z : _≡_ {A = ℕ} 0 1 = cc in omega arith)
+
+pub format-fixed : (w : List ℕ) → Format Always Always (λ u. w) (fixed w)
+unfolding fixed
+format-fixed w =
+    record {
+      complete = λ a rest small follows. rw (starts-append w rest, drop-append-seam w rest) refl;
+      sound = λ s a rest e. go s a rest (startsWith w s) refl e;
+    }
+  where
+    go : (s : List ℕ) (a : Unit {0}) (rest : List ℕ) (t : Bool) → startsWith w s ≡ t → pick t (found tt (drop (length w) s)) nothing ≡ found a rest → Unit {0} × (s ≡ w ++ rest)
+    go s a rest true p q = let same : drop (length w) s ≡ rest = cc in (tt, starts-split w s p ∙ ap (λ (l : List ℕ). w ++ l) same)
+    go s a rest false p q = differ a rest q
+
+-- the bytes begin with one that ends a word
+abbrev pub EndsWord : List ℕ → Type 0
+EndsWord [] = ⊥
+EndsWord (b ∷ rest) = endsWord b ≡ true
+
+pub format-number : Format (λ n. n < 10000000) EndsWord decimal number
+unfolding number
+format-number = record { complete = whole; sound = λ s n rest e. go s n rest (numberOf (upTo endsWord s)) refl e }
+  where
+    cut : (n : ℕ) (rest : List ℕ) → EndsWord rest → upTo endsWord (decimal n ++ rest) ≡ decimal n
+    cut n [] h = absurd h
+    cut n (b ∷ rest) h = word-decimal n b rest h
+
+    whole : (n : ℕ) (rest : List ℕ) → n < 10000000 → EndsWord rest
+        → numberFound (numberOf (upTo endsWord (decimal n ++ rest))) (drop (length (upTo endsWord (decimal n ++ rest))) (decimal n ++ rest)) ≡ found n rest
+    whole n rest small follows = rw (cut n rest follows, number-decimal n small, drop-append-seam (decimal n) rest) refl
+
+    go : (s : List ℕ) (n : ℕ) (rest : List ℕ) (o : Numeral) → numberOf (upTo endsWord s) ≡ o → numberFound o (drop (length (upTo endsWord s)) s) ≡ found n rest
+        → (n < 10000000) × (s ≡ decimal n ++ rest)
+    go s n rest Missing p q = differ n rest q
+    go s n rest (Value m) p q =
+        let is : m ≡ n = cc in
+        let same : drop (length (upTo endsWord s)) s ≡ rest = cc in
+        let (word, below) = decimal-number (upTo endsWord s) n (p ∙ ap Value is) in
+        (below, upTo-split endsWord s ∙ rw (same, word) refl)
+
+-- ---- one after the other: what the second writes may follow the first
+
+module _ {A B : Type 0} {S : A → Type 0} {F : List ℕ → Type 0} {w : A → List ℕ} {f : Reader A} {T : B → Type 0} {G : List ℕ → Type 0} {v : B → List ℕ} {g : Reader B}
+    (first : Format S F w f) (second : Format T G v g) where
+  pub format-sequence : ((b : B) (rest : List ℕ) → T b → G rest → F (v b ++ rest)) → Format (Both S T) G (both w v) (sequence f g)
+  unfolding sequence
+  format-sequence glue =
+      record {
+        complete = λ p rest small follows.
+            rw (append-assoc (w (p .0)) (v (p .1)) rest, first .complete (p .0) (v (p .1) ++ rest) (small .0) (glue (p .1) rest (small .1) follows), second .complete (p .1) rest (small .1) follows) refl;
+        sound = λ s p rest e. go s p rest (f s) refl e;
+      }
+    where
+      next : (s : List ℕ) (p : A × B) (rest : List ℕ) (a : A) (r : List ℕ) → f s ≡ found a r → (o : Found B) → g r ≡ o → on o (λ b rest′. found (a, b) rest′) ≡ found p rest → Both S T p × (s ≡ both w v p ++ rest)
+      next s p rest a r e nothing e′ q = differ p rest q
+      next s p rest a r e (found b r′) e′ q =
+          let is : (a, b) ≡ p = cc in
+          let same : r′ ≡ rest = cc in
+          let (small, here) = first .sound s a r e in
+          let (small′, there) = second .sound r b r′ e′ in
+          subst (λ (p : A × B). Both S T p × (s ≡ both w v p ++ rest)) is
+          ((small, small′), here ∙ rw (there, same, append-assoc (w a) (v b) rest) refl)
+
+      go : (s : List ℕ) (p : A × B) (rest : List ℕ) (o : Found A) → f s ≡ o → on o (λ a r. on (g r) (λ b rest′. found (a, b) rest′)) ≡ found p rest → Both S T p × (s ≡ both w v p ++ rest)
+      go s p rest nothing e q = differ p rest q
+      go s p rest (found a r) e q = next s p rest a r e (g r) refl q
+
+-- ---- the same text, for another value, by two functions that are each other's inverse
+
+module _ {A B : Type 0} {S : A → Type 0} {F : List ℕ → Type 0} {w : A → List ℕ} {f : Reader A} (to : A → B) (from : B → A)
+    (to-from : (b : B) → to (from b) ≡ b) (from-to : (a : A) → from (to a) ≡ a) where
+  pub format-changed : Format S F w f → Format (λ b. S (from b)) F (λ b. w (from b)) (changed to f)
+  unfolding changed
+  format-changed of =
+      record {
+        complete = λ b rest small follows. rw (of .complete (from b) rest small follows, to-from b) refl;
+        sound = λ s b rest e. go s b rest (f s) refl e;
+      }
+    where
+      go : (s : List ℕ) (b : B) (rest : List ℕ) (o : Found A) → f s ≡ o → on o (λ a r. found (to a) r) ≡ found b rest → S (from b) × (s ≡ w (from b) ++ rest)
+      go s b rest nothing e q = differ b rest q
+      go s b rest (found a r) e q =
+          let is : to a ≡ b = cc in
+          let same : r ≡ rest = cc in
+          let back : a ≡ from b = sym (from-to a) ∙ ap from is in
+          let (small, here) = of .sound s a r e in
+          (subst (λ (x : A). S x) back small, here ∙ rw (same, back) refl)
+
+-- ---- the same format, said in other words
+
+module _ {A : Type 0} {S S′ : A → Type 0} {F F′ : List ℕ → Type 0} {w w′ : A → List ℕ} {f : Reader A} where
+  pub format-as : ((a : A) → S′ a → S a) → ((a : A) → S a → S′ a) → ((rest : List ℕ) → F′ rest → F rest) → ((a : A) → w′ a ≡ w a) → Format S F w f → Format S′ F′ w′ f
+  format-as down up narrow same of =
+      record {
+        complete = λ a rest small follows. rw (same a) (of .complete a rest (down a small) (narrow rest follows));
+        sound = λ s a rest e. let (small, is) = of .sound s a rest e in (up a small, rw (same a) is);
+      }
+
+-- ---- fixed bytes before or after a value
+
+module _ {A : Type 0} {S : A → Type 0} {F : List ℕ → Type 0} {w : A → List ℕ} {f : Reader A} where
+  pub format-before : (x : List ℕ) → Format S F w f → Format S F (λ a. x ++ w a) (before x f)
+  format-before x of =
+      format-as (λ a small. (tt, small)) (λ a small. small .1) (λ rest follows. follows) (λ a. refl)
+      (format-changed (λ p. p .1) (λ a. (tt, a)) (λ b. refl) (λ p. refl) (format-sequence (format-fixed x) of (λ b rest small follows. tt)))
+
+  pub format-closed : (x : List ℕ) → ((rest : List ℕ) → F (x ++ rest)) → Format S F w f → Format S Always (λ a. w a ++ x) (closed f x)
+  format-closed x ends of =
+      format-as (λ a small. (small, tt)) (λ a small. small .0) (λ rest follows. follows) (λ a. refl)
+      (format-changed (λ p. p .0) (λ a. (a, tt)) (λ b. refl) (λ p. refl) (format-sequence of (format-fixed x) (λ b rest small follows. ends rest)))
+
+-- ---- a whole text: it spells a value, or none
+
+pub data Whole {A B : Type 0} (Spells : A → Type 0) (k : A → B) (other : B) : B → Type 0 where
+  spelt : (a : A) → Spells a → Whole Spells k other (k a)
+  unspelt : ((a : A) → Spells a → ⊥) → Whole Spells k other other
+
+module _ {A B : Type 0} {Spells : A → Type 0} {k : A → B} {other : B} where
+  pub none-whole : (o : B) → Whole Spells k other o → ((a : A) → Spells a → ⊥) → o ≡ other
+  none-whole _ (spelt a is) without = absurd (without a is)
+  none-whole _ (unspelt none) without = refl
+
+  module _ (apart : (a : A) → k a ≡ other → ⊥) where
+    pub whole-none : (o : B) → Whole Spells k other o → o ≡ other → (a : A) → Spells a → ⊥
+    whole-none _ (spelt a is) e = absurd (apart a e)
+    whole-none _ (unspelt none) e = none
+
+    pub whole-spells : ((a a′ : A) → k a ≡ k a′ → a ≡ a′) → (o : B) → Whole Spells k other o → (a : A) → o ≡ k a → Spells a
+    whole-spells same _ (spelt a is) a′ e = subst (λ (x : A). Spells x) (same a a′ e) is
+    whole-spells same _ (unspelt none) a′ e = absurd (apart a′ (sym e))
+
+module _ {A : Type 0} {S : A → Type 0} {F : List ℕ → Type 0} {w : A → List ℕ} {f : Reader A} (of : Format S F w f) (end : F []) where
+  pub read-whole : (a : A) (l : List ℕ) → S a → l ≡ w a → f l ≡ found a []
+  read-whole a l small is = ap f (is ∙ sym (append-nil (w a))) ∙ of .complete a [] small end
+
+  pub format-whole : {B : Type 0} (k : A → B) (other : B) (l : List ℕ) → Whole (λ a. S a × (l ≡ w a)) k other (whole k other (f l))
+  format-whole {B} k other l = go (f l) refl
+    where
+      go : (o : Found A) → f l ≡ o → Whole (λ a. S a × (l ≡ w a)) k other (whole k other o)
+      go nothing e = unspelt (λ a is. differ a [] (sym e ∙ read-whole a l (is .0) (is .1)))
+      go (found a []) e = let (small, is) = of .sound l a [] e in spelt a (small, is ∙ append-nil (w a))
+      go (found a (b ∷ rest)) e =
+          unspelt (λ a′ is.
+          let same : _≡_ {A = Found A} (found a (b ∷ rest)) (found a′ []) = sym e ∙ read-whole a′ l (is .0) (is .1) in
+          let z : b ∷ rest ≡ [] = cc in
+          let z : _≡_ {A = ℕ} 0 1 = cc in
+          omega arith)
+
+  -- no two values have the same text
+  pub format-injective : (a a′ : A) → S a → S a′ → w a ≡ w a′ → a ≡ a′
+  format-injective a a′ small small′ e =
+      let same : _≡_ {A = Found A} (found a []) (found a′ []) = sym (read-whole a (w a) small refl) ∙ read-whole a′ (w a) small′ e in
+      cc

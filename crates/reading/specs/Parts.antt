@@ -1,0 +1,17 @@
+-- The answers of the code for the parts of a line. Nobody has to believe this file.
+use Prim.Native.Nat.{ℕ}
+use Rattle.format.specs.Places.{Part, part, refused}
+use Rattle.record.specs.declared.Wall.{Wall}
+use Rattle.record.specs.declared.Group.{Group}
+use Rattle.reading.specs.declared.WallAt.{WallAt}
+use Rattle.reading.specs.declared.WallAt.the-variants as WallAt
+use Rattle.reading.specs.declared.GroupAt.{GroupAt}
+use Rattle.reading.specs.declared.GroupAt.the-variants as GroupAt
+
+abbrev pub wallPart : WallAt → Part Wall
+wallPart (WallAt.Read w next) = part w next
+wallPart (WallAt.Refused n) = refused n
+
+abbrev pub groupPart : GroupAt → Part Group
+groupPart (GroupAt.Read g next) = part g next
+groupPart (GroupAt.Refused n) = refused n
