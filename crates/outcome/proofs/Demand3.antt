@@ -97,6 +97,17 @@ module _ (sheet out : List ℕ) where
 
 -- ---- demand 3
 
+module _ (sheet out : List ℕ) where
+  broken-outcome : (n : ℕ) → FirstBroken (sheetChecks sheet (length out)) n → outcome sheet out ≡ (turnedBack n, out)
+  unfolding outcome
+  broken-outcome n f =
+      first-broken (λ m. (turnedBack m, out)) (listedOutcome sheet, listing sheet ++ drop (length (listing sheet)) out) (sheetChecks sheet (length out)) n f
+
+  passed-outcome : AllPassed (sheetChecks sheet (length out)) → outcome sheet out ≡ (listedOutcome sheet, listing sheet ++ drop (length (listing sheet)) out)
+  unfolding outcome
+  passed-outcome all =
+      all-passed (λ m. (turnedBack m, out)) (listedOutcome sheet, listing sheet ++ drop (length (listing sheet)) out) (sheetChecks sheet (length out)) all
+
 run-right : (sheet out : List ℕ) → Run answerTo sheet out (outcome sheet out .0) (outcome sheet out .1)
 unfolding outcome
 run-right sheet out = go (first-or (λ n. (turnedBack n, out)) (listedOutcome sheet, listing sheet ++ drop (length (listing sheet)) out) (sheetChecks sheet (length out)))
@@ -133,8 +144,7 @@ demand-of sheet out out′ r e = subst (λ (q : Outcome × List ℕ). Demand3 an
 module _ (sheet out : List ℕ) where
   -- 1, 2 or 3 is returned exactly if it is the first check broken
   pub returned-broken : (n : ℕ) → 0 < n → (outcome sheet out .0 .refusal ≡ n) ↔ FirstBroken (sheetChecks sheet (length out)) n
-  unfolding outcome
-  returned-broken n pos = (λ e. by (run-right sheet out) e, λ f. ap (λ (q : Outcome × List ℕ). q .0 .refusal) (first-broken (λ m. (turnedBack m, out)) _ _ n f))
+  returned-broken n pos = (λ e. by (run-right sheet out) e, λ f. ap (λ (q : Outcome × List ℕ). q .0 .refusal) (broken-outcome sheet out n f))
     where
       by : Run answerTo sheet out (outcome sheet out .0) (outcome sheet out .1) → outcome sheet out .0 .refusal ≡ n → FirstBroken (sheetChecks sheet (length out)) n
       by (turned m f r o) e = rw (sym e ∙ ap (λ (q : Outcome). q .refusal) r) f
@@ -142,12 +152,11 @@ module _ (sheet out : List ℕ) where
 
   -- 0 is returned exactly if none is broken
   pub returned-passed : (outcome sheet out .0 .refusal ≡ 0) ↔ AllPassed (sheetChecks sheet (length out))
-  unfolding outcome
-  returned-passed = (λ e. by (run-right sheet out) e, λ all. ap (λ (q : Outcome × List ℕ). q .0 .refusal) (all-passed (λ m. (turnedBack m, out)) _ _ all))
+  returned-passed = (λ e. by (run-right sheet out) e, λ all. ap (λ (q : Outcome × List ℕ). q .0 .refusal) (passed-outcome sheet out all))
     where
       by : Run answerTo sheet out (outcome sheet out .0) (outcome sheet out .1) → outcome sheet out .0 .refusal ≡ 0 → AllPassed (sheetChecks sheet (length out))
       by (turned m f r o) e =
-          absurd (omega (arith, ap (λ (q : Outcome). q .refusal) r, among-every (λ i. 0 < i) (1 ∷ 2 ∷ 3 ∷ []) m (first-among _ m f) (lit< tt, (lit< tt, (lit< tt, tt)))))
+          absurd (omega (arith, ap (λ (q : Outcome). q .refusal) r, among-every (λ i. 0 < i) (1 ∷ 2 ∷ 3 ∷ []) m (first-among (sheetChecks sheet (length out)) m f) (lit< tt, (lit< tt, (lit< tt, tt)))))
       by (listed all l) e = all
 
   -- "listing untouched": a sheet that is turned back leaves the buffer as it was
@@ -165,7 +174,8 @@ room-enough sheet out h e = no (returned-broken sheet out 3 (lit< tt) .0 e)
     no : FirstBroken (sheetChecks sheet (length out)) 3 → ⊥
     no (inl (f, is)) = omega arith
     no (inr (t, inl (f, is))) = omega arith
-    no (inr (t, inr (few, inl (f, is)))) = omega (arith, leb-true _ _ few, leb-false _ _ f)
+    no (inr (t, inr (few, inl (f, is)))) = omega (arith, leb-true (length (lines sheet)) 1024 few, leb-false (24 * length (lines sheet) + 40) (length out) f)
+    no (inr (t, inr (few, inr (u, none)))) = none
 
 -- the returned length is within the buffer, for whoever prints so many of its bytes
 pub length-fits : (rule : List ℕ → Answer) (sheet out out′ : List ℕ) (r : Outcome) → Demand3 rule sheet out r out′ → r .length ≤ length out′

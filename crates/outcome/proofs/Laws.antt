@@ -72,11 +72,11 @@ module _ (sheet out : List ℕ) (n : ℕ) (e : n ≡ refusalBy (sheetChecks shee
   unfolding outcome
   outcome-turned h r t =
       ap (λ (q : Outcome). (q, out)) t
-      ∙ sym (first-broken (λ m. (turnedBack m, out)) _ (sheetChecks sheet (length out)) n (refusal-broken _ (lit< tt, (lit< tt, (lit< tt, tt))) n e h))
+      ∙ sym (first-broken (λ m. (turnedBack m, out)) _ (sheetChecks sheet (length out)) n (refusal-broken (sheetChecks sheet (length out)) (lit< tt, (lit< tt, (lit< tt, tt))) n e h))
 
   module _ (z : n ≤ 0) where
     passed : AllPassed (sheetChecks sheet (length out))
-    passed = refusal-none _ (lit< tt, (lit< tt, (lit< tt, tt))) n e z
+    passed = refusal-none (sheetChecks sheet (length out)) (lit< tt, (lit< tt, (lit< tt, tt))) n e z
 
     pub outcome-accepted : Accepted sheet (length out)
     outcome-accepted = accepted sheet (length out) passed

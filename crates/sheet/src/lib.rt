@@ -8,14 +8,17 @@ use outcome::Outcome;
 use outcome::refusal;
 use reading::Form;
 use reading::read;
+use record::Record;
 use total::put_total;
 ghost use mathlib.Core.Path.{_≡_};
 ghost use mathlib.Core.List.{List};
 ghost use Prim.Native.Nat.{ℕ, _≤_};
 ghost use lib.ListN.{length};
 ghost use Rattle.text.specs.Bytes.{put};
-ghost use Rattle.reading.specs.Reading.{answerTo};
-ghost use Rattle.outcome.specs.Sheet.{listing, turnedBack, accepted, outcome};
+ghost use Rattle.reading.specs.Answering.{answerTo};
+ghost use Rattle.outcome.specs.Sheet.{turnedBack};
+ghost use Rattle.outcome.specs.Demand3.{Demand3};
+ghost use Rattle.outcome.specs.Running.{listing, listedOutcome, outcome};
 ghost use Rattle.outcome.specs.declared.Outcome.{Outcome};
 
 // The answer to a line: refused by 4 if it is over 128 bytes, by 5 if it is not the form, else the answer to its record.
@@ -28,7 +31,20 @@ fn answer(line: &[u8]) -> Answer
     let Form::Read(c) = read(line) else {
         return Answer::Refused(5);
     };
-    shell::answer(c)
+    let w = c.wall;
+    let g = c.group;
+    Record::judge(
+        w.radius,
+        w.thickness,
+        w.length,
+        w.modulus,
+        w.yield_stress,
+        w.edges,
+        w.imperfection,
+        g.axial,
+        g.ring,
+        g.shear,
+    )
 }
 
 // The outcome of a sheet that is turned back with the number n.
@@ -45,7 +61,7 @@ fn turned_back(n: u64) -> Outcome
 // Writes the listing of a sheet to the start of `out`.
 fn put_listing(sheet: &[u8], out: &mut [u8]) -> Outcome
     requires { ⌜ (length (now sheet) ≤ 65535) × (length (listing (now sheet)) ≤ length (now out)) ⌝ }
-    ensures { λ r. ⌜ r ≡ accepted (now (sheet .entry)) ⌝ }
+    ensures { λ r. ⌜ r ≡ listedOutcome (now (sheet .entry)) ⌝ }
     ensures { λ _. ⌜ now (out .exit) ≡ put (now (out .entry)) 0 (listing (now (sheet .entry))) ⌝ }
 {
     let mut rest = sheet;
@@ -68,6 +84,7 @@ fn put_listing(sheet: &[u8], out: &mut [u8]) -> Outcome
 
 // The whole run: writes the listing of the sheet to the start of `out`, or turns the sheet back and leaves `out` as it is.
 pub fn run(sheet: &[u8], out: &mut [u8]) -> Outcome
+    ensures { λ r. ⌜ Demand3 answerTo (now (sheet .entry)) (now (out .entry)) r (now (out .exit)) ⌝ }
     ensures { λ r. ⌜ _≡_ {A = Outcome × List ℕ} (r, now (out .exit)) (outcome (now (sheet .entry)) (now (out .entry))) ⌝ }
 {
     let room = out.len() as u64;

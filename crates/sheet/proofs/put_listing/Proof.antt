@@ -6,9 +6,10 @@ use mathlib.Core.List.{List, _∷_}
 use lib.ListN.{length, length-map}
 use Rattle.text.specs.Bytes.{after, isNewline, lines}
 use Rattle.text.proofs.Laws.{rest-less, lines-le}
-use Rattle.reading.specs.Reading.{answerTo}
+use Rattle.reading.specs.Answering.{answerTo}
 use Rattle.listing.proofs.Turns.{Here, here-first, here-room, here-turn, here-within, here-counts, here-total, here-listing}
-use Rattle.outcome.specs.Sheet.{answers, listing}
+use Rattle.outcome.specs.Sheet.{listingBy}
+use Rattle.outcome.specs.Running.{answers, listing}
 use Rattle.outcome.proofs.Laws.{answers-next, answers-none, listed}
 use Rattle.sheet.proofs.put_listing.Statement.{statement}
 use Rattle.sheet.proofs.put_listing.Tie as tie
@@ -43,7 +44,7 @@ with-requires c κs =
     omega (arith, lines-le sheet, length-map (lines sheet) answerTo, c .before .before .before .before .before .before .before .pre .0)
 
 put-entry-requires : tie.Need-put-entry-requires Inv-loop μ-loop
-unfolding listing
+unfolding listingBy
 put-entry-requires c κs = here-room _ _ _ _ _ _ _ _ (c .before .before .before .before .before .loop .inv) (told (c .before .before)) _ (c .before .with .ensures) (c .before .before .before .before .before .before .before .before .before .pre .1)
 
 after-line-requires : tie.Need-after-line-requires Inv-loop μ-loop
@@ -57,14 +58,14 @@ loop-again c =
     here-turn _ _ _ _ _ _ _ _ (c .before .before .before .before .before .before .before .before .before .loop .inv) (told (c .before .before .before .before .before .before) ∙ ap (λ (l : List ℕ). c .before .before .before .before .before .before .answer .result ∷ answers l) (sym (c .after-line .ensures))) _ (c .before .before .before .before .before .with .ensures) _ _ (c .before .before .before .put-entry .ensures)
 
 put-total-requires : tie.Need-put-total-requires Inv-loop μ-loop
-unfolding listing
+unfolding listingBy
 put-total-requires c κs = here-total _ _ _ _ _ _ (c .before .before .loop .inv) (answers-none _ (c .before .loop-test .left)) (c .before .before .before .before .before .before .pre .1)
 
 same-length : tie.Need-same-length Inv-loop μ-loop
 same-length c = c .before .before .put-total .kept .0 ∙ c .before .before .before .before .before .loop .inv .same
 
 returns : tie.Need-returns Inv-loop μ-loop
-unfolding listing
+unfolding listingBy
 returns c =
     let i = c .before .before .before .before .before .loop .inv in
     let done = answers-none _ (c .before .before .before .before .loop-test .left) in

@@ -1,6 +1,7 @@
 -- `sheet::run` meets its contract. Assumes nothing.
 use borrow.Author.Needs.{needs}
-use Rattle.outcome.proofs.Laws.{refusal-none, outcome-turned, outcome-fits, outcome-listed}
+use Rattle.outcome.proofs.Laws.{outcome-turned, outcome-accepted, outcome-fits, outcome-listed}
+use Rattle.outcome.proofs.Demand3.{demand-of}
 use Rattle.sheet.proofs.run.Statement.{statement}
 use Rattle.sheet.proofs.run.Tie as tie
 
@@ -11,13 +12,15 @@ turned-back-requires : tie.Need-turned-back-requires
 turned-back-requires c κs = search needs
 
 returns : tie.Need-returns
-returns c = outcome-turned _ _ _ (c .before .before .refusal .ensures) (c .before .if1 .taken) _ (c .turned-back .ensures)
+returns c =
+    let e = outcome-turned _ _ _ (c .before .before .refusal .ensures) (c .before .if1 .taken) _ (c .turned-back .ensures) in
+    (demand-of _ _ _ _ e, e)
 
 put-listing-requires : tie.Need-put-listing-requires
 put-listing-requires c κs =
     let e = c .before .before .refusal .ensures in
     let a = c .before .before .before .before .before .args in
-    (refusal-none _ _ _ e (c .before .if1 .left) .0, outcome-fits (a .sheet .now) (a .out .now) _ e (c .before .if1 .left))
+    (outcome-accepted (a .sheet .now) (a .out .now) _ e (c .before .if1 .left) .short, outcome-fits (a .sheet .now) (a .out .now) _ e (c .before .if1 .left))
 
 same-length : tie.Need-same-length
 same-length c = search needs
@@ -25,7 +28,8 @@ same-length c = search needs
 returns-2 : tie.Need-returns-2
 returns-2 c =
     let s = c .before .before in
-    outcome-listed _ _ _ (s .before .before .before .refusal .ensures) (s .before .before .if1 .left) _ _ (s .put-listing .ensures .0) (s .put-listing .ensures .1)
+    let e = outcome-listed _ _ _ (s .before .before .before .refusal .ensures) (s .before .before .if1 .left) _ _ (s .put-listing .ensures .0) (s .put-listing .ensures .1) in
+    (demand-of _ _ _ _ e, e)
 
 pub run-spec : {M : Type 1} → statement M
 run-spec =
