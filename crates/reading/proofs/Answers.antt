@@ -38,9 +38,9 @@ module _ (l : List ℕ) where
     unfolding answerTo
     answer-other {n} e = sym (rw (le-ltb 128 (length l) h, sym is ∙ e, refused-five l n (sym is ∙ e)) refl)
 
-    pub answer-read : {c : Record} → f ≡ Form.Read c → (a : Answer) → a ≡ recordAnswer c → a ≡ answerTo l
+    pub answer-read : (c : Record) → f ≡ Form.Read c → (a : Answer) → a ≡ recordAnswer c → a ≡ answerTo l
     unfolding answerTo
-    answer-read e a p = p ∙ sym (rw (le-ltb 128 (length l) h, sym is ∙ e) refl)
+    answer-read c e a p = p ∙ sym (rw (le-ltb 128 (length l) h, sym is ∙ e) refl)
 
 -- ---- the answer is right
 

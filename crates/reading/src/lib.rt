@@ -8,8 +8,8 @@ use record::Group;
 use record::Record;
 use record::Wall;
 ghost use mathlib.Core.Path.{_≡_};
-ghost use Rattle.format.specs.Places.{Answers};
-ghost use Rattle.reading.specs.Reading.{wall, group, formOf};
+ghost use Rattle.format.specs.Places.{Answers, numberPart};
+ghost use Rattle.reading.specs.Reading.{spaced, wall, group, formOf};
 ghost use Rattle.reading.specs.Parts.{wallPart, groupPart};
 
 // What a line is: the text of a record, or the line's refusal.
@@ -29,6 +29,13 @@ enum GroupAt {
     Refused(u64),
 }
 
+// A number after a space.
+fn spaced_at(line: &[u8], at: usize) -> NumberAt
+    ensures { λ r. ⌜ Answers spaced (now (line .entry)) at (numberPart r) ⌝ }
+{
+    number_after(line, at, b" ")
+}
+
 // r t l E fy edges a
 fn wall_at(line: &[u8], at: usize) -> WallAt
     ensures { λ r. ⌜ Answers wall (now (line .entry)) at (wallPart r) ⌝ }
@@ -36,22 +43,22 @@ fn wall_at(line: &[u8], at: usize) -> WallAt
     let NumberAt::Read(radius, at) = number_at(line, at) else {
         return WallAt::Refused(5);
     };
-    let NumberAt::Read(thickness, at) = number_after(line, at, b" ") else {
+    let NumberAt::Read(thickness, at) = spaced_at(line, at) else {
         return WallAt::Refused(5);
     };
-    let NumberAt::Read(length, at) = number_after(line, at, b" ") else {
+    let NumberAt::Read(length, at) = spaced_at(line, at) else {
         return WallAt::Refused(5);
     };
-    let NumberAt::Read(modulus, at) = number_after(line, at, b" ") else {
+    let NumberAt::Read(modulus, at) = spaced_at(line, at) else {
         return WallAt::Refused(5);
     };
-    let NumberAt::Read(yield_stress, at) = number_after(line, at, b" ") else {
+    let NumberAt::Read(yield_stress, at) = spaced_at(line, at) else {
         return WallAt::Refused(5);
     };
-    let NumberAt::Read(edges, at) = number_after(line, at, b" ") else {
+    let NumberAt::Read(edges, at) = spaced_at(line, at) else {
         return WallAt::Refused(5);
     };
-    let NumberAt::Read(imperfection, at) = number_after(line, at, b" ") else {
+    let NumberAt::Read(imperfection, at) = spaced_at(line, at) else {
         return WallAt::Refused(5);
     };
     let wall = Wall {
@@ -73,10 +80,10 @@ fn group_at(line: &[u8], at: usize) -> GroupAt
     let NumberAt::Read(axial, at) = number_after(line, at, b" (stress ") else {
         return GroupAt::Refused(5);
     };
-    let NumberAt::Read(ring, at) = number_after(line, at, b" ") else {
+    let NumberAt::Read(ring, at) = spaced_at(line, at) else {
         return GroupAt::Refused(5);
     };
-    let NumberAt::Read(shear, at) = number_after(line, at, b" ") else {
+    let NumberAt::Read(shear, at) = spaced_at(line, at) else {
         return GroupAt::Refused(5);
     };
     let FixedAt::Read(at) = fixed_at(line, at, b")") else {

@@ -22,11 +22,8 @@ unfolding group
 returns c =
     refuses (fails-changed _ (fails-first _ (number-fails (c .before .before .number-after .ensures) (c .enum-told .given .1))))
 
-slice-aggregate-number-after-2 : tie.Need-slice-aggregate-number-after-2
-slice-aggregate-number-after-2 c = search needs
-
-number-after-requires-2 : tie.Need-number-after-requires-2
-number-after-requires-2 c κs = search needs
+spaced-at-requires : tie.Need-spaced-at-requires
+spaced-at-requires c κs = search needs
 
 enum-known-ring : tie.Need-enum-known-ring
 enum-known-ring c = search needs
@@ -37,14 +34,11 @@ enum-told-2 c = search needs
 returns-2 : tie.Need-returns-2
 unfolding group
 returns-2 c =
-    let k1 = c .before .before .before .before in
-    refuses (fails-changed _ (fails-second (number-finds (k1 .before .before .before .number-after .ensures) (k1 .before .axial .given .1)) (fails-first _ (number-fails (c .before .before .number-after2 .ensures) (c .enum-told2 .given .1)))))
+    let k1 = c .before .before .before in
+    refuses (fails-changed _ (fails-second (number-finds (k1 .before .before .before .number-after .ensures) (k1 .before .axial .given .1)) (fails-first _ (number-fails (c .before .before .spaced-at .ensures) (c .enum-told2 .given .1)))))
 
-slice-aggregate-number-after-3 : tie.Need-slice-aggregate-number-after-3
-slice-aggregate-number-after-3 c = search needs
-
-number-after-requires-3 : tie.Need-number-after-requires-3
-number-after-requires-3 c κs = search needs
+spaced-at-requires-2 : tie.Need-spaced-at-requires-2
+spaced-at-requires-2 c κs = search needs
 
 enum-known-shear : tie.Need-enum-known-shear
 enum-known-shear c = search needs
@@ -55,11 +49,11 @@ enum-told-3 c = search needs
 returns-3 : tie.Need-returns-3
 unfolding group
 returns-3 c =
-    let k2 = c .before .before .before .before in
-    let k1 = k2 .before .before .before .before .before in
+    let k2 = c .before .before .before in
+    let k1 = k2 .before .before .before .before in
     refuses (fails-changed _
     (fails-second (number-finds (k1 .before .before .before .number-after .ensures) (k1 .before .axial .given .1))
-    (fails-second (number-finds (k2 .before .before .before .number-after2 .ensures) (k2 .before .ring .given .1)) (fails-closed _ (number-fails (c .before .before .number-after3 .ensures) (c .enum-told3 .given .1))))))
+    (fails-second (number-finds (k2 .before .before .before .spaced-at .ensures) (k2 .before .ring .given .1)) (fails-closed _ (number-fails (c .before .before .spaced-at2 .ensures) (c .enum-told3 .given .1))))))
 
 slice-aggregate-fixed-at : tie.Need-slice-aggregate-fixed-at
 slice-aggregate-fixed-at c = search needs
@@ -77,21 +71,21 @@ returns-4 : tie.Need-returns-4
 unfolding group
 returns-4 c =
     let k3 = c .before .before .before .before in
-    let k2 = k3 .before .before .before .before .before in
-    let k1 = k2 .before .before .before .before .before in
+    let k2 = k3 .before .before .before .before in
+    let k1 = k2 .before .before .before .before in
     refuses (fails-changed _
     (fails-second (number-finds (k1 .before .before .before .number-after .ensures) (k1 .before .axial .given .1))
-    (fails-second (number-finds (k2 .before .before .before .number-after2 .ensures) (k2 .before .ring .given .1)) (fails-end _ (number-finds (k3 .before .before .before .number-after3 .ensures) (k3 .before .shear .given .1)) (fixed-fails (c .before .before .fixed-at .ensures) (c .enum-told4 .given .1))))))
+    (fails-second (number-finds (k2 .before .before .before .spaced-at .ensures) (k2 .before .ring .given .1)) (fails-end _ (number-finds (k3 .before .before .before .spaced-at2 .ensures) (k3 .before .shear .given .1)) (fixed-fails (c .before .before .fixed-at .ensures) (c .enum-told4 .given .1))))))
 
 returns-5 : tie.Need-returns-5
 unfolding group
 returns-5 c =
     let k3 = c .before .before .before .before .before in
-    let k2 = k3 .before .before .before .before .before in
-    let k1 = k2 .before .before .before .before .before in
+    let k2 = k3 .before .before .before .before in
+    let k1 = k2 .before .before .before .before in
     reads (finds-changed _
     (finds-sequence (number-finds (k1 .before .before .before .number-after .ensures) (k1 .before .axial .given .1))
-    (finds-sequence (number-finds (k2 .before .before .before .number-after2 .ensures) (k2 .before .ring .given .1)) (finds-closed _ (number-finds (k3 .before .before .before .number-after3 .ensures) (k3 .before .shear .given .1)) (fixed-finds (c .before .before .before .fixed-at .ensures) (c .before .at .given .1))))))
+    (finds-sequence (number-finds (k2 .before .before .before .spaced-at .ensures) (k2 .before .ring .given .1)) (finds-closed _ (number-finds (k3 .before .before .before .spaced-at2 .ensures) (k3 .before .shear .given .1)) (fixed-finds (c .before .before .before .fixed-at .ensures) (c .before .at .given .1))))))
 
 pub group-at-spec : {M : Type 1} → statement M
 group-at-spec =
@@ -102,13 +96,11 @@ group-at-spec =
     enum-known-axial
     enum-told
     returns
-    slice-aggregate-number-after-2
-    number-after-requires-2
+    spaced-at-requires
     enum-known-ring
     enum-told-2
     returns-2
-    slice-aggregate-number-after-3
-    number-after-requires-3
+    spaced-at-requires-2
     enum-known-shear
     enum-told-3
     returns-3

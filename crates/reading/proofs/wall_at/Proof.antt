@@ -19,11 +19,8 @@ unfolding wall
 returns c =
     refuses (fails-changed _ (fails-first _ (number-fails (c .before .before .number-at .ensures) (c .enum-told .given .1))))
 
-slice-aggregate-number-after : tie.Need-slice-aggregate-number-after
-slice-aggregate-number-after c = search needs
-
-number-after-requires : tie.Need-number-after-requires
-number-after-requires c κs = search needs
+spaced-at-requires : tie.Need-spaced-at-requires
+spaced-at-requires c κs = search needs
 
 enum-known-thickness : tie.Need-enum-known-thickness
 enum-known-thickness c = search needs
@@ -34,15 +31,12 @@ enum-told-2 c = search needs
 returns-2 : tie.Need-returns-2
 unfolding wall
 returns-2 c =
-    let k1 = c .before .before .before .before in
+    let k1 = c .before .before .before in
     refuses (fails-changed _
-    (fails-second (number-finds (k1 .before .before .before .number-at .ensures) (k1 .before .radius .given .1)) (fails-first _ (number-fails (c .before .before .number-after .ensures) (c .enum-told2 .given .1)))))
+    (fails-second (number-finds (k1 .before .before .before .number-at .ensures) (k1 .before .radius .given .1)) (fails-first _ (number-fails (c .before .before .spaced-at .ensures) (c .enum-told2 .given .1)))))
 
-slice-aggregate-number-after-2 : tie.Need-slice-aggregate-number-after-2
-slice-aggregate-number-after-2 c = search needs
-
-number-after-requires-2 : tie.Need-number-after-requires-2
-number-after-requires-2 c κs = search needs
+spaced-at-requires-2 : tie.Need-spaced-at-requires-2
+spaced-at-requires-2 c κs = search needs
 
 enum-known-length : tie.Need-enum-known-length
 enum-known-length c = search needs
@@ -53,17 +47,14 @@ enum-told-3 c = search needs
 returns-3 : tie.Need-returns-3
 unfolding wall
 returns-3 c =
-    let k2 = c .before .before .before .before in
-    let k1 = k2 .before .before .before .before .before in
+    let k2 = c .before .before .before in
+    let k1 = k2 .before .before .before .before in
     refuses (fails-changed _
     (fails-second (number-finds (k1 .before .before .before .number-at .ensures) (k1 .before .radius .given .1))
-    (fails-second (number-finds (k2 .before .before .before .number-after .ensures) (k2 .before .thickness .given .1)) (fails-first _ (number-fails (c .before .before .number-after2 .ensures) (c .enum-told3 .given .1))))))
+    (fails-second (number-finds (k2 .before .before .before .spaced-at .ensures) (k2 .before .thickness .given .1)) (fails-first _ (number-fails (c .before .before .spaced-at2 .ensures) (c .enum-told3 .given .1))))))
 
-slice-aggregate-number-after-3 : tie.Need-slice-aggregate-number-after-3
-slice-aggregate-number-after-3 c = search needs
-
-number-after-requires-3 : tie.Need-number-after-requires-3
-number-after-requires-3 c κs = search needs
+spaced-at-requires-3 : tie.Need-spaced-at-requires-3
+spaced-at-requires-3 c κs = search needs
 
 enum-known-modulus : tie.Need-enum-known-modulus
 enum-known-modulus c = search needs
@@ -74,19 +65,16 @@ enum-told-4 c = search needs
 returns-4 : tie.Need-returns-4
 unfolding wall
 returns-4 c =
-    let k3 = c .before .before .before .before in
-    let k2 = k3 .before .before .before .before .before in
-    let k1 = k2 .before .before .before .before .before in
+    let k3 = c .before .before .before in
+    let k2 = k3 .before .before .before .before in
+    let k1 = k2 .before .before .before .before in
     refuses (fails-changed _
     (fails-second (number-finds (k1 .before .before .before .number-at .ensures) (k1 .before .radius .given .1))
-    (fails-second (number-finds (k2 .before .before .before .number-after .ensures) (k2 .before .thickness .given .1))
-    (fails-second (number-finds (k3 .before .before .before .number-after2 .ensures) (k3 .before .length .given .1)) (fails-first _ (number-fails (c .before .before .number-after3 .ensures) (c .enum-told4 .given .1)))))))
+    (fails-second (number-finds (k2 .before .before .before .spaced-at .ensures) (k2 .before .thickness .given .1))
+    (fails-second (number-finds (k3 .before .before .before .spaced-at2 .ensures) (k3 .before .length .given .1)) (fails-first _ (number-fails (c .before .before .spaced-at3 .ensures) (c .enum-told4 .given .1)))))))
 
-slice-aggregate-number-after-4 : tie.Need-slice-aggregate-number-after-4
-slice-aggregate-number-after-4 c = search needs
-
-number-after-requires-4 : tie.Need-number-after-requires-4
-number-after-requires-4 c κs = search needs
+spaced-at-requires-4 : tie.Need-spaced-at-requires-4
+spaced-at-requires-4 c κs = search needs
 
 enum-known-yield-stress : tie.Need-enum-known-yield-stress
 enum-known-yield-stress c = search needs
@@ -97,21 +85,18 @@ enum-told-5 c = search needs
 returns-5 : tie.Need-returns-5
 unfolding wall
 returns-5 c =
-    let k4 = c .before .before .before .before in
-    let k3 = k4 .before .before .before .before .before in
-    let k2 = k3 .before .before .before .before .before in
-    let k1 = k2 .before .before .before .before .before in
+    let k4 = c .before .before .before in
+    let k3 = k4 .before .before .before .before in
+    let k2 = k3 .before .before .before .before in
+    let k1 = k2 .before .before .before .before in
     refuses (fails-changed _
     (fails-second (number-finds (k1 .before .before .before .number-at .ensures) (k1 .before .radius .given .1))
-    (fails-second (number-finds (k2 .before .before .before .number-after .ensures) (k2 .before .thickness .given .1))
-    (fails-second (number-finds (k3 .before .before .before .number-after2 .ensures) (k3 .before .length .given .1))
-    (fails-second (number-finds (k4 .before .before .before .number-after3 .ensures) (k4 .before .modulus .given .1)) (fails-first _ (number-fails (c .before .before .number-after4 .ensures) (c .enum-told5 .given .1))))))))
+    (fails-second (number-finds (k2 .before .before .before .spaced-at .ensures) (k2 .before .thickness .given .1))
+    (fails-second (number-finds (k3 .before .before .before .spaced-at2 .ensures) (k3 .before .length .given .1))
+    (fails-second (number-finds (k4 .before .before .before .spaced-at3 .ensures) (k4 .before .modulus .given .1)) (fails-first _ (number-fails (c .before .before .spaced-at4 .ensures) (c .enum-told5 .given .1))))))))
 
-slice-aggregate-number-after-5 : tie.Need-slice-aggregate-number-after-5
-slice-aggregate-number-after-5 c = search needs
-
-number-after-requires-5 : tie.Need-number-after-requires-5
-number-after-requires-5 c κs = search needs
+spaced-at-requires-5 : tie.Need-spaced-at-requires-5
+spaced-at-requires-5 c κs = search needs
 
 enum-known-edges : tie.Need-enum-known-edges
 enum-known-edges c = search needs
@@ -122,23 +107,20 @@ enum-told-6 c = search needs
 returns-6 : tie.Need-returns-6
 unfolding wall
 returns-6 c =
-    let k5 = c .before .before .before .before in
-    let k4 = k5 .before .before .before .before .before in
-    let k3 = k4 .before .before .before .before .before in
-    let k2 = k3 .before .before .before .before .before in
-    let k1 = k2 .before .before .before .before .before in
+    let k5 = c .before .before .before in
+    let k4 = k5 .before .before .before .before in
+    let k3 = k4 .before .before .before .before in
+    let k2 = k3 .before .before .before .before in
+    let k1 = k2 .before .before .before .before in
     refuses (fails-changed _
     (fails-second (number-finds (k1 .before .before .before .number-at .ensures) (k1 .before .radius .given .1))
-    (fails-second (number-finds (k2 .before .before .before .number-after .ensures) (k2 .before .thickness .given .1))
-    (fails-second (number-finds (k3 .before .before .before .number-after2 .ensures) (k3 .before .length .given .1))
-    (fails-second (number-finds (k4 .before .before .before .number-after3 .ensures) (k4 .before .modulus .given .1))
-    (fails-second (number-finds (k5 .before .before .before .number-after4 .ensures) (k5 .before .yield-stress .given .1)) (fails-first _ (number-fails (c .before .before .number-after5 .ensures) (c .enum-told6 .given .1)))))))))
+    (fails-second (number-finds (k2 .before .before .before .spaced-at .ensures) (k2 .before .thickness .given .1))
+    (fails-second (number-finds (k3 .before .before .before .spaced-at2 .ensures) (k3 .before .length .given .1))
+    (fails-second (number-finds (k4 .before .before .before .spaced-at3 .ensures) (k4 .before .modulus .given .1))
+    (fails-second (number-finds (k5 .before .before .before .spaced-at4 .ensures) (k5 .before .yield-stress .given .1)) (fails-first _ (number-fails (c .before .before .spaced-at5 .ensures) (c .enum-told6 .given .1)))))))))
 
-slice-aggregate-number-after-6 : tie.Need-slice-aggregate-number-after-6
-slice-aggregate-number-after-6 c = search needs
-
-number-after-requires-6 : tie.Need-number-after-requires-6
-number-after-requires-6 c κs = search needs
+spaced-at-requires-6 : tie.Need-spaced-at-requires-6
+spaced-at-requires-6 c κs = search needs
 
 enum-known-imperfection : tie.Need-enum-known-imperfection
 enum-known-imperfection c = search needs
@@ -149,37 +131,37 @@ enum-told-7 c = search needs
 returns-7 : tie.Need-returns-7
 unfolding wall
 returns-7 c =
-    let k6 = c .before .before .before .before in
-    let k5 = k6 .before .before .before .before .before in
-    let k4 = k5 .before .before .before .before .before in
-    let k3 = k4 .before .before .before .before .before in
-    let k2 = k3 .before .before .before .before .before in
-    let k1 = k2 .before .before .before .before .before in
+    let k6 = c .before .before .before in
+    let k5 = k6 .before .before .before .before in
+    let k4 = k5 .before .before .before .before in
+    let k3 = k4 .before .before .before .before in
+    let k2 = k3 .before .before .before .before in
+    let k1 = k2 .before .before .before .before in
     refuses (fails-changed _
     (fails-second (number-finds (k1 .before .before .before .number-at .ensures) (k1 .before .radius .given .1))
-    (fails-second (number-finds (k2 .before .before .before .number-after .ensures) (k2 .before .thickness .given .1))
-    (fails-second (number-finds (k3 .before .before .before .number-after2 .ensures) (k3 .before .length .given .1))
-    (fails-second (number-finds (k4 .before .before .before .number-after3 .ensures) (k4 .before .modulus .given .1))
-    (fails-second (number-finds (k5 .before .before .before .number-after4 .ensures) (k5 .before .yield-stress .given .1))
-    (fails-second (number-finds (k6 .before .before .before .number-after5 .ensures) (k6 .before .edges .given .1)) (number-fails (c .before .before .number-after6 .ensures) (c .enum-told7 .given .1)))))))))
+    (fails-second (number-finds (k2 .before .before .before .spaced-at .ensures) (k2 .before .thickness .given .1))
+    (fails-second (number-finds (k3 .before .before .before .spaced-at2 .ensures) (k3 .before .length .given .1))
+    (fails-second (number-finds (k4 .before .before .before .spaced-at3 .ensures) (k4 .before .modulus .given .1))
+    (fails-second (number-finds (k5 .before .before .before .spaced-at4 .ensures) (k5 .before .yield-stress .given .1))
+    (fails-second (number-finds (k6 .before .before .before .spaced-at5 .ensures) (k6 .before .edges .given .1)) (number-fails (c .before .before .spaced-at6 .ensures) (c .enum-told7 .given .1)))))))))
 
 returns-8 : tie.Need-returns-8
 unfolding wall
 returns-8 c =
     let k7 = c in
-    let k6 = k7 .before .before .before .before .before in
-    let k5 = k6 .before .before .before .before .before in
-    let k4 = k5 .before .before .before .before .before in
-    let k3 = k4 .before .before .before .before .before in
-    let k2 = k3 .before .before .before .before .before in
-    let k1 = k2 .before .before .before .before .before in
+    let k6 = k7 .before .before .before .before in
+    let k5 = k6 .before .before .before .before in
+    let k4 = k5 .before .before .before .before in
+    let k3 = k4 .before .before .before .before in
+    let k2 = k3 .before .before .before .before in
+    let k1 = k2 .before .before .before .before in
     reads (finds-changed _
     (finds-sequence (number-finds (k1 .before .before .before .number-at .ensures) (k1 .before .radius .given .1))
-    (finds-sequence (number-finds (k2 .before .before .before .number-after .ensures) (k2 .before .thickness .given .1))
-    (finds-sequence (number-finds (k3 .before .before .before .number-after2 .ensures) (k3 .before .length .given .1))
-    (finds-sequence (number-finds (k4 .before .before .before .number-after3 .ensures) (k4 .before .modulus .given .1))
-    (finds-sequence (number-finds (k5 .before .before .before .number-after4 .ensures) (k5 .before .yield-stress .given .1))
-    (finds-sequence (number-finds (k6 .before .before .before .number-after5 .ensures) (k6 .before .edges .given .1)) (number-finds (k7 .before .before .before .number-after6 .ensures) (k7 .before .imperfection .given .1)))))))))
+    (finds-sequence (number-finds (k2 .before .before .before .spaced-at .ensures) (k2 .before .thickness .given .1))
+    (finds-sequence (number-finds (k3 .before .before .before .spaced-at2 .ensures) (k3 .before .length .given .1))
+    (finds-sequence (number-finds (k4 .before .before .before .spaced-at3 .ensures) (k4 .before .modulus .given .1))
+    (finds-sequence (number-finds (k5 .before .before .before .spaced-at4 .ensures) (k5 .before .yield-stress .given .1))
+    (finds-sequence (number-finds (k6 .before .before .before .spaced-at5 .ensures) (k6 .before .edges .given .1)) (number-finds (k7 .before .before .before .spaced-at6 .ensures) (k7 .before .imperfection .given .1)))))))))
 
 pub wall-at-spec : {M : Type 1} → statement M
 wall-at-spec =
@@ -189,33 +171,27 @@ wall-at-spec =
     enum-known-radius
     enum-told
     returns
-    slice-aggregate-number-after
-    number-after-requires
+    spaced-at-requires
     enum-known-thickness
     enum-told-2
     returns-2
-    slice-aggregate-number-after-2
-    number-after-requires-2
+    spaced-at-requires-2
     enum-known-length
     enum-told-3
     returns-3
-    slice-aggregate-number-after-3
-    number-after-requires-3
+    spaced-at-requires-3
     enum-known-modulus
     enum-told-4
     returns-4
-    slice-aggregate-number-after-4
-    number-after-requires-4
+    spaced-at-requires-4
     enum-known-yield-stress
     enum-told-5
     returns-5
-    slice-aggregate-number-after-5
-    number-after-requires-5
+    spaced-at-requires-5
     enum-known-edges
     enum-told-6
     returns-6
-    slice-aggregate-number-after-6
-    number-after-requires-6
+    spaced-at-requires-6
     enum-known-imperfection
     enum-told-7
     returns-7
