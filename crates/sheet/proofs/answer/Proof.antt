@@ -23,7 +23,7 @@ judge-requires : tie.Need-judge-requires
 judge-requires c κs = search needs
 
 returns-3 : tie.Need-returns-3
-returns-3 c = answer-read _ (c .before .before .before .before .before .before .before .if1 .left) _ (c .before .before .before .before .before .before .read .ensures) (c .before .before .before .before .c .given .1) _ (c .judge .ensures .0)
+returns-3 c = answer-read _ (c .before .before .before .before .before .before .before .if1 .left) _ (c .before .before .before .before .before .before .read .ensures) _ (c .before .before .before .before .c .given .1) _ (c .judge .ensures .0)
 
 pub answer-spec : {M : Type 1} → statement M
 answer-spec =

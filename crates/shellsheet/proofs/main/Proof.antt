@@ -40,10 +40,10 @@ run-requires : tie.Need-run-requires
 run-requires c κs = search needs
 
 array-share-prefix-listing : tie.Need-array-share-prefix-listing
-array-share-prefix-listing c = length-fits _ _ _ _ (c .before .before .run .ensures)
+array-share-prefix-listing c = length-fits _ _ _ _ _ (c .before .before .run .ensures .0)
 
 slice-aggregate-write-out : tie.Need-slice-aggregate-write-out
-slice-aggregate-write-out c = sym (length-take-le _ _ (length-fits _ _ _ _ (c .before .before .before .run .ensures)))
+slice-aggregate-write-out c = sym (length-take-le _ _ (length-fits _ _ _ _ _ (c .before .before .before .run .ensures .0)))
 
 write-out-requires : tie.Need-write-out-requires
 write-out-requires c κs = search needs

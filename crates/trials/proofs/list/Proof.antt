@@ -24,10 +24,10 @@ run-requires : tie.Need-run-requires
 run-requires c κs = search needs
 
 array-share-prefix-listing : tie.Need-array-share-prefix-listing
-array-share-prefix-listing c = length-fits _ _ _ _ (c .before .before .run .ensures)
+array-share-prefix-listing c = length-fits _ _ _ _ _ (c .before .before .run .ensures .0)
 
 slice-aggregate-write-all : tie.Need-slice-aggregate-write-all
-slice-aggregate-write-all c = sym (length-take-le _ _ (length-fits _ _ _ _ (c .before .before .before .run .ensures)))
+slice-aggregate-write-all c = sym (length-take-le _ _ (length-fits _ _ _ _ _ (c .before .before .before .run .ensures .0)))
 
 write-all-requires : tie.Need-write-all-requires
 write-all-requires c κs = search needs
