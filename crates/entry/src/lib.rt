@@ -6,7 +6,7 @@ use text::put_number;
 ghost use mathlib.Core.Path.{_≡_};
 ghost use Prim.Native.Nat.{_+_, _≤_};
 ghost use lib.ListN.{length};
-ghost use Rattle.text.specs.Bytes.{put};
+ghost use Rattle.text.specs.Slices.{put};
 ghost use Rattle.listing.specs.Listing.{verdictWord, said, entry, ended};
 
 // Writes the word of a verdict.

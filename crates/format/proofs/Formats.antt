@@ -10,7 +10,8 @@ use lib.Seq.{drop-append-seam}
 use lib.Dec.{eqb}
 use borrow.Author.Tests.{eqb-true, eq-eqb}
 use Rattle.algebra.specs.Choice.{pick}
-use Rattle.text.specs.Bytes.{decimal, upTo}
+use Rattle.text.specs.Bytes.{decimal}
+use Rattle.text.specs.Slices.{upTo}
 use Rattle.text.proofs.Laws.{upTo-split}
 use Rattle.word.specs.Words.{endsWord}
 use Rattle.word.specs.Numbers.{numberOf}

@@ -7,7 +7,7 @@ use mathlib.Core.Bool.{Bool, true, false}
 use mathlib.Core.List.{List, [], _∷_}
 use lib.ListN.{length, take, drop, length-drop, drop-of-length-le}
 use lib.Seq.{drop-drop}
-use Rattle.text.specs.Bytes.{upTo}
+use Rattle.text.specs.Slices.{upTo}
 use Rattle.text.proofs.Laws.{part-from, upTo-le}
 use Rattle.word.specs.Words.{endsWord}
 use Rattle.word.specs.Numbers.{numberOf}

@@ -6,7 +6,7 @@ use mathlib.Core.List.{List, [], _∷_}
 use lib.ListN.{length, drop}
 use lib.Dec.{eqb}
 use Rattle.algebra.specs.Choice.{pick}
-use Rattle.text.specs.Bytes.{upTo}
+use Rattle.text.specs.Slices.{upTo}
 use Rattle.word.specs.Words.{endsWord}
 use Rattle.word.specs.Numbers.{numberOf}
 use Rattle.word.specs.declared.Numeral.{Numeral}

@@ -7,7 +7,7 @@ use native.Mathlib.Omega.{arith}
 use mathlib.Core.Bool.{Bool}
 use mathlib.Core.List.{List, [], _∷_, _++_}
 use lib.ListN.{length, length-append}
-use Rattle.text.specs.Bytes.{put}
+use Rattle.text.specs.Slices.{put}
 use Rattle.algebra.specs.Choice.{pick}
 use Rattle.text.proofs.Laws.{put-nil, put-length, put-append, Wrote, wrote-then}
 use Rattle.answer.specs.declared.Answer.{Answer}

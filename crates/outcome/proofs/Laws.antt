@@ -8,7 +8,8 @@ use mathlib.Core.List.{List, [], _∷_, map}
 use lib.ListN.{length, length-map}
 use lib.Dec.{lit<}
 use borrow.Author.Tests.{leb-true}
-use Rattle.text.specs.Bytes.{put, upTo, after, isNewline, lines}
+use Rattle.text.specs.Bytes.{isNewline, lines}
+use Rattle.text.specs.Slices.{put, upTo, after}
 use Rattle.text.proofs.Laws.{put-all, Wrote, lines-nil, lines-cons}
 use Rattle.answer.specs.declared.Answer.{Answer}
 use Rattle.answer.specs.declared.Answer.the-variants.{Refused}

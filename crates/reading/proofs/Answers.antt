@@ -24,7 +24,7 @@ use Rattle.reading.specs.Text.{Spells}
 use Rattle.reading.specs.Reading.{formOf}
 use Rattle.reading.specs.Answering.{answerForm, answerTo}
 use Rattle.reading.specs.Answers.{RightLine, too-long, not-form, of-record}
-use Rattle.reading.proofs.Inverse.{form-right, refused-five, other-text}
+use Rattle.reading.proofs.Inverse.{form-right, refused-five, other-text, blank-spells}
 
 -- ---- for the code
 
@@ -79,3 +79,7 @@ answer-four l = (λ e. right-four l (answerTo l) (answer-right l) e, λ h. sym (
 
 pub answer-five : (l : List ℕ) → (answerTo l ≡ Refused 5) ↔ ((length l ≤ 128) × ((c : Record) → Spells l c → ⊥))
 answer-five l = (λ e. right-five l (answerTo l) (answer-right l) e, λ h. sym (answer-other l (h .0) (formOf l) refl (other-text l .1 (h .1))))
+
+-- "A blank line is a line, refused by 5"
+pub blank-five : answerTo [] ≡ Refused 5
+blank-five = answer-five [] .1 (lit≤ tt, λ c is. blank-spells c is)

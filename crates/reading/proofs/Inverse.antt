@@ -3,7 +3,7 @@
 use mathlib.Core.Path.{_≡_, refl, sym, ap, _∙_}
 use Prim.Native.Nat.{ℕ}
 use native.Mathlib.Omega.{arith}
-use mathlib.Core.List.{List, _++_, append-assoc}
+use mathlib.Core.List.{List, [], _++_, append-assoc}
 use mathlib.Core.Logic.{_↔_}
 use Rattle.text.specs.Bytes.{ascii, decimal}
 use Rattle.format.specs.Readers.{whole}
@@ -104,3 +104,8 @@ spells-once l c d is is′ = same c d (sym (read-text l c is) ∙ read-text l d 
 -- no two records have the same text
 pub text-injective : (c d : Record) → Small c → Small d → text c ≡ text d → c ≡ d
 text-injective c d small small′ e = format-injective format-line tt c d small small′ e
+
+-- a blank line spells no record
+pub blank-spells : (c : Record) → Spells [] c → ⊥
+unfolding Spells text
+blank-spells c (small, e) = let z : _≡_ {A = ℕ} 0 1 = cc in omega arith

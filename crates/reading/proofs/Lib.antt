@@ -1,2 +1,3 @@
 pub mod Inverse
 pub mod Answers
+pub mod Unique

@@ -14,7 +14,7 @@ ghost use mathlib.Core.Path.{_≡_};
 ghost use mathlib.Core.List.{List};
 ghost use Prim.Native.Nat.{ℕ, _≤_};
 ghost use lib.ListN.{length};
-ghost use Rattle.text.specs.Bytes.{put};
+ghost use Rattle.text.specs.Slices.{put};
 ghost use Rattle.reading.specs.Answering.{answerTo};
 ghost use Rattle.outcome.specs.Sheet.{turnedBack};
 ghost use Rattle.outcome.specs.Demand3.{Demand3};

@@ -4,7 +4,8 @@ use Prim.Native.Nat.{ℕ}
 use mathlib.Core.Path.{_≡_, refl, sym, ap, _∙_}
 use mathlib.Core.List.{List, _∷_}
 use lib.ListN.{length, length-map}
-use Rattle.text.specs.Bytes.{after, isNewline, lines}
+use Rattle.text.specs.Bytes.{isNewline, lines}
+use Rattle.text.specs.Slices.{after}
 use Rattle.text.proofs.Laws.{rest-less, lines-le}
 use Rattle.reading.specs.Answering.{answerTo}
 use Rattle.listing.proofs.Turns.{Here, here-first, here-room, here-turn, here-within, here-counts, here-total, here-listing}
