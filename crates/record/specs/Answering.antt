@@ -1,4 +1,4 @@
--- How the program answers a record. Nobody has to believe this file: `record-right` (proofs/Right.antt) says that the answer is Right.
+-- How the program answers a record. Nobody has to believe this: `record-right` (proofs/Right.antt) says that the answer is Right.
 use Rattle.cylinder.specs.Fraction.{whole}
 use Rattle.cylinder.specs.Search.{Pair, sumBounds}
 use Rattle.answer.specs.declared.Judgement.{Judgement}
