@@ -1,4 +1,5 @@
 -- The largest number that passes a test, by halving; and what it is to be that number.
+-- Nobody has to believe this: `bisect-only` (proofs/Bisection.antt) says that the halving ends at the one edge.
 use mathlib.Core.Path.{_≡_}
 use mathlib.Core.Bool.{Bool, true, false}
 use Prim.Native.Nat.{ℕ, zero, suc, _+_, _/_, _≤_}

@@ -1,5 +1,5 @@
 -- The search of `nl`: which facts to use, and what to multiply each by, so that the goal's right side less its left has no negative coefficient.
--- Nobody has to believe these definitions: what the search finds is tested, and proofs/Nonlinear.antt says what a passed test gives.
+-- Nobody has to believe this: what the search finds is tested, and proofs/Nonlinear.antt says what a passed test gives.
 use mathlib.Core.Path.{_≡_, sym}
 use mathlib.Core.List.{List, [], _∷_, tail}
 use mathlib.Core.Option.{Option, some, none}

@@ -1,6 +1,7 @@
--- The definitions. What they are good for is said by the laws: proofs/Lib.antt.
+-- To be believed, beside document 01: Choice.
+pub mod Choice
+-- Nobody has to believe these: tests and searches that proofs compute with. proofs/ says what a passed test and a search give, of plain numbers.
 pub mod Bisection
 pub mod Certificate
-pub mod Choice
 pub mod Polynomial
 pub mod Quotation

@@ -1,5 +1,5 @@
 -- Polynomials over ℕ: trees, their normal forms, and a test on the normal forms that decides equations and orders between polynomials.
--- Nobody has to believe these definitions: proofs/Polynomial.antt says what a passed test gives, a statement on plain numbers.
+-- Nobody has to believe this: proofs/Polynomial.antt says what a passed test gives, a statement on plain numbers.
 use mathlib.Core.Path.{_≡_}
 use mathlib.Core.List.{List, [], _∷_, map}
 use mathlib.Core.Bool.{Bool, _&&_}

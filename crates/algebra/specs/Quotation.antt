@@ -1,6 +1,6 @@
 -- Trees for numbers as they stand in a goal, found by `search quoted`, and the tests on them.
 -- A tree for the number n over the unknowns ρ is data of the type `Quote ρ n`: to find it is to find a proof.
--- Nobody has to believe these definitions: proofs/Ring.antt says what a passed test gives.
+-- Nobody has to believe this: proofs/Ring.antt says what a passed test gives.
 use mathlib.Core.Path.{_≡_}
 use mathlib.Core.List.{List, [], _∷_, _++_, reverseAux}
 use mathlib.Core.Bool.{Bool, true, false, _&&_}

@@ -7,10 +7,10 @@ use native.Mathlib.Omega.{arith}
 use Rattle.answer.specs.declared.Judgement.{Judgement}
 use Rattle.answer.specs.declared.Answer.{Answer}
 use Rattle.answer.specs.declared.Answer.the-variants.{Refused, Judged}
-use Rattle.answer.specs.Answers.{verdictOf, judgementOf, Bounded}
+use Rattle.answer.specs.Answers.{verdictOf}
 use Rattle.answer.specs.Checks.{Check, FirstBroken, AllPassed}
 use Rattle.answer.specs.Right.{RightBy, refused, judged}
-use Rattle.answer.specs.Answering.{firstOr}
+use Rattle.answer.specs.Answering.{firstOr, judgementOf, Bounded}
 use Rattle.answer.proofs.Checks.{first-or, first-once, broken-passed, numbers, Among, first-among}
 
 module _ (ks : List Check) (Claim : ℕ → ℕ → Type 0) where

@@ -1,7 +1,13 @@
--- How the program goes through checks. Nobody has to believe this file: `first-or` (proofs/Checks.antt) says what `firstOr` gives.
-use Prim.Native.Nat.{ℕ}
+-- How the program answers: its way through checks, the judgement by L and U, and what it asks of an answer that it writes as one number.
+-- Nobody has to believe this: `first-or` (proofs/Checks.antt) says what `firstOr` gives, and `answer-by-right` and `right-bounded`
+-- (proofs/Right.antt) say that the answer by it is right, and that a right answer fits its number.
+use Prim.Native.Nat.{ℕ, _≤_}
 use mathlib.Core.List.{List, [], _∷_}
 use Rattle.algebra.specs.Choice.{pick}
+use Rattle.answer.specs.declared.Judgement.{Judgement}
+use Rattle.answer.specs.declared.Answer.{Answer}
+use Rattle.answer.specs.declared.Answer.the-variants.{Refused, Judged}
+use Rattle.answer.specs.Answers.{verdictOf}
 use Rattle.answer.specs.Checks.{Check}
 
 -- what f gives of the number of the first check that is broken, else a
@@ -12,3 +18,12 @@ firstOr f a (k ∷ ks) = pick (k .passed) (firstOr f a ks) (f (k .refusal))
 -- the number of the first check that is broken, 0 where none is
 abbrev pub refusalBy : List Check → ℕ
 refusalBy ks = firstOr (λ n. n) 0 ks
+
+-- the judgement by L and U
+abbrev pub judgementOf : ℕ → ℕ → Judgement
+judgementOf L U = record { verdict = verdictOf L U; low = L; high = U }
+
+-- L and U are at most 20,000, so that the number of the answer fits a u64
+abbrev pub Bounded : Answer → Type 0
+Bounded (Refused n) = Unit {0}
+Bounded (Judged j) = (j .low ≤ 20000) × (j .high ≤ 20000)

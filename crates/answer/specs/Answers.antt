@@ -1,19 +1,15 @@
 -- Document 01, "The sum and what exact means": the verdict by L and U, and the number of an answer that the call from C returns.
-use Prim.Native.Nat.{ℕ, _+_, _*_, _≤_}
+use Prim.Native.Nat.{ℕ, _+_, _*_}
 use lib.Dec.{leb, ltb}
 use Rattle.algebra.specs.Choice.{pick}
 use Rattle.answer.specs.declared.Verdict.{Verdict}
 use Rattle.answer.specs.declared.Verdict.the-variants.{Holds, Fails, Open}
-use Rattle.answer.specs.declared.Judgement.{Judgement}
 use Rattle.answer.specs.declared.Answer.{Answer}
 use Rattle.answer.specs.declared.Answer.the-variants.{Refused, Judged}
 
 -- holds if U ≤ 10,000, fails if L > 10,000, open otherwise
 abbrev pub verdictOf : ℕ → ℕ → Verdict
 verdictOf L U = pick (leb U 10000) Holds (pick (ltb 10000 L) Fails Open)
-
-abbrev pub judgementOf : ℕ → ℕ → Judgement
-judgementOf L U = record { verdict = verdictOf L U; low = L; high = U }
 
 -- 1 for holds, 2 for fails, 3 for open
 abbrev pub verdictNumber : Verdict → ℕ
@@ -25,8 +21,3 @@ verdictNumber Open = 3
 abbrev pub answerNumber : Answer → ℕ
 answerNumber (Refused n) = n
 answerNumber (Judged j) = 10000000000 * verdictNumber (j .verdict) + 100000 * j .low + j .high
-
--- L and U are at most 20,000
-abbrev pub Bounded : Answer → Type 0
-Bounded (Refused n) = Unit {0}
-Bounded (Judged j) = (j .low ≤ 20000) × (j .high ≤ 20000)

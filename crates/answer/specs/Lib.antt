@@ -2,5 +2,6 @@
 pub mod Answers
 pub mod Checks
 pub mod Right
--- Nobody has to believe it, since proofs/Checks.antt says what it gives: how the program goes through the checks.
+-- Nobody has to believe it, how the program answers: `first-or` (proofs/Checks.antt) says what it gives, and `answer-by-right`
+-- (proofs/Right.antt) that it is right.
 pub mod Answering

@@ -1,7 +1,8 @@
 // The answer to a record: a refusal, or a judgement with its verdict and bounds; and the one number that stands for it in C.
 ghost use mathlib.Core.Path.{_≡_};
 ghost use Prim.Native.Nat.{_+_, _*_, _≤_};
-ghost use Rattle.answer.specs.Answers.{judgementOf, verdictNumber, answerNumber, Bounded};
+ghost use Rattle.answer.specs.Answers.{verdictNumber, answerNumber};
+ghost use Rattle.answer.specs.Answering.{judgementOf, Bounded};
 
 // What is said of a shell.
 pub enum Verdict {

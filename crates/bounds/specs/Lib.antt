@@ -1,3 +1,3 @@
--- Nobody has to believe: Sides, Stresses.
+-- Nobody has to believe these, of which only contracts speak: `sum-bounds` (cylinder's proofs/SumBounds.antt) has that the bounds are right.
 pub mod Sides
 pub mod Stresses

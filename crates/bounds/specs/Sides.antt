@@ -1,5 +1,5 @@
 -- Where a number lies to the limits of the curves' branches.
--- Nobody has to believe these forms: cylinder's proofs/SumBounds.antt has that the bounds are right.
+-- Nobody has to believe this: cylinder's proofs/SumBounds.antt has that the bounds are right.
 use mathlib.Core.Path.{_≡_}
 use Rattle.cylinder.specs.Cut.{Cut}
 use Rattle.bounds.specs.declared.Limits.{Limits}

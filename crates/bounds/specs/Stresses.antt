@@ -1,5 +1,5 @@
 -- The three stresses by their kind: one rule for each of slenderness, term and bounds, over the whole-number forms of cylinder's specs.
--- Nobody has to believe these forms: cylinder's proofs/SumBounds.antt has that the bounds are right.
+-- Nobody has to believe this: cylinder's proofs/SumBounds.antt has that the bounds are right.
 use mathlib.Core.Path.{_≡_}
 use Prim.Native.Nat.{ℕ}
 use Rattle.cylinder.specs.declared.Shell.{Shell}

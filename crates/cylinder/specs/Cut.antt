@@ -1,5 +1,5 @@
 -- A number by its tests on two whole numbers p, q: it reaches p/q, and is within p/q.
--- Nobody has to believe these forms: proofs/Agree.antt has that they are the tests of Resistance.
+-- Nobody has to believe this: proofs/Agree.antt has that they are the tests of Resistance.
 use Prim.Native.Nat.{ℕ, _*_, _-_, _^_}
 use mathlib.Core.Bool.{Bool, _&&_, _||_}
 use lib.Dec.{leb}

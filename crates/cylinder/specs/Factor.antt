@@ -1,5 +1,5 @@
 -- A factor of the resistance at the slenderness S = p/q: a fraction of whole numbers.
--- Nobody has to believe these forms: proofs/Curves.antt has that they are the curves of Resistance.
+-- Nobody has to believe this: proofs/Curves.antt has that they are the curves of Resistance.
 use Prim.Native.Nat.{ℕ, _+_, _*_, _-_, _^_}
 
 pub record Factor : Type 0 where

@@ -1,4 +1,5 @@
--- Document 01, "The record": the limits, as a shell has them.
+-- What the search asks of a shell: document 01's limits, as a shell has them.
+-- Nobody has to believe this: `shell-within` (record's proofs/Checks.antt) has it of every record that breaks no check.
 use Prim.Native.Nat.{_*_, _≤_}
 use Rattle.cylinder.specs.declared.Shell.{Shell}
 

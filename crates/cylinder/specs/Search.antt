@@ -1,5 +1,5 @@
 -- The grid, the search on it, and the bounds L and U.
--- Nobody has to believe these definitions: proofs/SumBounds.antt has that the bounds are right.
+-- Nobody has to believe this: proofs/SumBounds.antt has that the bounds are right.
 use Prim.Native.Nat.{ℕ, zero, suc, _+_, _/_, min}
 use mathlib.Core.Bool.{_&&_}
 use lib.Dec.{leb}

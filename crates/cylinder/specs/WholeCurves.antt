@@ -1,5 +1,5 @@
 -- The curves of Resistance in whole numbers: the branches in which a slenderness lies, and the factors of the resistance in them.
--- Nobody has to believe these forms: proofs/Curves.antt has that they are those curves.
+-- Nobody has to believe this: proofs/Curves.antt has that they are those curves.
 use Prim.Native.Nat.{ℕ, _-_}
 use mathlib.Core.Bool.{Bool, true, false}
 use Rattle.algebra.specs.Choice.{pick}

@@ -1,5 +1,5 @@
 -- The length tests of Ideal and the slendernesses of Resistance in whole numbers, with the constants multiplied together.
--- Nobody has to believe these forms: proofs/Agree.antt has that they are the same tests.
+-- Nobody has to believe this: proofs/Agree.antt has that they are the same tests.
 use Prim.Native.Nat.{ℕ, _+_, _*_, _^_}
 use mathlib.Core.Bool.{Bool}
 use lib.Dec.{leb, eqb}

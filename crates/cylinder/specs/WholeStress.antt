@@ -1,5 +1,5 @@
 -- The terms of the three stresses, each a fraction of kN/m², in whole numbers.
--- Nobody has to believe these forms: proofs/Curves.antt has that their tests are those of Sum.
+-- Nobody has to believe this: proofs/Curves.antt has that their tests are those of Sum.
 use Prim.Native.Nat.{ℕ, _*_, _-_, _^_}
 use Rattle.cylinder.specs.declared.Shell.{Shell}
 use Rattle.cylinder.specs.Fraction.{Fraction}

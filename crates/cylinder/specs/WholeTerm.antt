@@ -1,5 +1,5 @@
 -- A term of the sum in whole numbers, and which fractions its formula reaches.
--- Nobody has to believe these forms: proofs/Curves.antt has that their tests are those of Sum.
+-- Nobody has to believe this: proofs/Curves.antt has that their tests are those of Sum.
 use Prim.Native.Nat.{ℕ, _*_, _^_}
 use mathlib.Core.Bool.{Bool}
 use lib.Dec.{leb}

@@ -1,3 +1,3 @@
--- Nobody has to believe these files: the laws of proofs/Formats.antt say what a reader finds, in terms of the text that is written.
+-- Nobody has to believe these: the laws of proofs/Formats.antt say what a reader finds, in terms of the text that is written.
 pub mod Readers
 pub mod Places

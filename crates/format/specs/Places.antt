@@ -1,5 +1,5 @@
 -- What a function of the code answers that reads at a place of a slice.
--- Nobody has to believe this file: proofs/Formats.antt says what the readers find.
+-- Nobody has to believe this: proofs/Formats.antt says what the readers find.
 use Prim.Native.Nat.{ℕ, _≤_}
 use mathlib.Core.Path.{_≡_}
 use mathlib.Core.List.{List}

@@ -1,5 +1,5 @@
 -- Readers: each finds a value at the start of a list of bytes, and the bytes after it. They are composed as the text is.
--- Nobody has to believe this file: proofs/Formats.antt.
+-- Nobody has to believe this: proofs/Formats.antt says what a reader finds, in terms of the text that is written.
 use Prim.Native.Nat.{ℕ}
 use mathlib.Core.Bool.{Bool, true, false}
 use mathlib.Core.List.{List, [], _∷_}

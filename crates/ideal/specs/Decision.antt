@@ -1,5 +1,5 @@
 -- Which number the related slenderness is, and the later of two answers of a comparison with it.
--- Nobody has to believe it: only contracts between crates speak of it.
+-- Nobody has to believe this: only contracts between crates speak of it.
 use mathlib.Core.Bool.{Bool}
 use Rattle.wide.specs.declared.Order.{Order}
 use Rattle.wide.specs.declared.Order.the-variants.{Less, Equal, Greater}

@@ -1,5 +1,5 @@
 -- Whether a cylinder is short, by the stress.
--- Nobody has to believe it: only contracts between crates speak of it.
+-- Nobody has to believe this: only contracts between crates speak of it.
 use mathlib.Core.Bool.{Bool}
 use Rattle.cylinder.specs.declared.Shell.{Shell}
 use Rattle.cylinder.specs.WholeIdeal.{axialIsShort, ringIsShort, shearIsShort}

@@ -1,4 +1,4 @@
--- How the program counts, one answer after the other. Nobody has to believe this file: `here-counts` (proofs/Turns.antt) has that it ends in `counts`.
+-- How the program counts, one answer after the other. Nobody has to believe this: `here-counts` (proofs/Turns.antt) has that it ends in `counts`.
 use Prim.Native.Nat.{_+_}
 use Rattle.algebra.specs.Choice.{pick}
 use Rattle.answer.specs.declared.Answer.{Answer}

@@ -1,4 +1,5 @@
 -- How many millionths a power of b/a reaches, up to 2,000,000.
+-- Nobody has to believe this: only contracts between crates speak of it, and `reached-is` (term's proofs/Millionths.antt) has that it is what a term reaches.
 use Prim.Native.Nat.{ℕ, _*_, _^_}
 use Rattle.roots.specs.Largest.{largest}
 use Rattle.millionths.specs.declared.Power.{Power}

@@ -1,4 +1,5 @@
 -- What bounds say of a number.
+-- Nobody has to believe this: only contracts between crates speak of it.
 use Prim.Native.Nat.{ℕ, _+_, _*_, _^_, _≤_, _<_}
 use Rattle.near.specs.declared.Near.{Near}
 use Rattle.near.specs.declared.Side.{Side}

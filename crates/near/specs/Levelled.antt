@@ -1,4 +1,4 @@
--- What the functions of this crate tell each other. Nobody has to believe it.
+-- What the functions of this crate tell each other. Nobody has to believe this: only contracts of this crate speak of it.
 use Prim.Native.Nat.{ℕ, _+_, _≤_, _<_}
 use Rattle.near.specs.declared.Near.{Near}
 use Rattle.near.specs.declared.Pair.{Pair}

@@ -1,4 +1,4 @@
--- How the program runs a sheet. Nobody has to believe this file: `demand-3` (proofs/Demand3.antt) says what `outcome` gives.
+-- How the program runs a sheet. Nobody has to believe this: `demand-3` (proofs/Demand3.antt) says what `outcome` gives.
 use Prim.Native.Nat.{ℕ}
 use mathlib.Core.List.{List, _++_}
 use lib.ListN.{length, drop}

@@ -1,5 +1,5 @@
 -- The largest point of a grid that a number reaches, up to a cap.
--- Nobody has to believe it: only contracts between crates speak of it.
+-- Nobody has to believe this: only contracts between crates speak of it.
 use mathlib.Core.Path.{_≡_}
 use mathlib.Core.Bool.{Bool, true, false}
 use Prim.Native.Nat.{ℕ, _+_, _≤_, _<_}

@@ -1,3 +1,3 @@
--- Nobody has to believe: Highest, TermsOf.
+-- Nobody has to believe these: only contracts between crates speak of them.
 pub mod Highest
 pub mod TermsOf

@@ -1,5 +1,5 @@
 -- What the bounds of the two branches whose ideal stress is a sum with a root stand for.
--- Nobody has to believe it: only contracts between crates speak of it.
+-- Nobody has to believe this: only contracts between crates speak of it.
 use mathlib.Core.Bool.{Bool, true, false}
 use mathlib.Core.List.{[], _∷_}
 use Prim.Native.Nat.{ℕ, _+_, _*_}

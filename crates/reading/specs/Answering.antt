@@ -1,4 +1,4 @@
--- How the program answers a line. Nobody has to believe this file: `answer-right` (proofs/Answers.antt) says what `answerTo` gives.
+-- How the program answers a line. Nobody has to believe this: `answer-right` (proofs/Answers.antt) says what `answerTo` gives.
 use Prim.Native.Nat.{ℕ}
 use mathlib.Core.List.{List}
 use lib.ListN.{length}

@@ -1,4 +1,4 @@
--- The answers of the code for the parts of a line. Nobody has to believe this file.
+-- The answers of the code for the parts of a line. Nobody has to believe this: only contracts of this crate speak of it.
 use Prim.Native.Nat.{ℕ}
 use Rattle.format.specs.Places.{Part, part, refused}
 use Rattle.record.specs.declared.Wall.{Wall}

@@ -1,4 +1,4 @@
--- How the program reads a line. Nobody has to believe this file: `form-right` (proofs/Inverse.antt) says what `formOf` gives.
+-- How the program reads a line. Nobody has to believe this: `form-right` (proofs/Inverse.antt) says what `formOf` gives.
 use Prim.Native.Nat.{ℕ}
 use mathlib.Core.List.{List}
 use Rattle.text.specs.Bytes.{ascii}

@@ -8,7 +8,7 @@ use Rattle.cylinder.specs.Search.{Pair, sumBounds}
 use Rattle.bounds.specs.declared.Load.{Load}
 use Rattle.bounds.specs.Stresses.{Small, fractionOf}
 use Rattle.answer.specs.declared.Judgement.{Judgement}
-use Rattle.answer.specs.Answers.{judgementOf}
+use Rattle.answer.specs.Answering.{judgementOf}
 
 pub load-small : {x : ℕ} (l : Load) → (l .num ≡ x) × (l .den ≡ 1) → x ≤ 700000 → Small l
 load-small l (n, d) h = (omega arith, omega arith)

@@ -15,7 +15,8 @@ use Rattle.answer.specs.declared.Verdict.the-variants.{Holds, Fails, Open}
 use Rattle.answer.specs.declared.Judgement.{Judgement}
 use Rattle.answer.specs.declared.Answer.{Answer}
 use Rattle.answer.specs.declared.Answer.the-variants.{Refused, Judged}
-use Rattle.answer.specs.Answers.{verdictOf, Bounded}
+use Rattle.answer.specs.Answers.{verdictOf}
+use Rattle.answer.specs.Answering.{Bounded}
 use Rattle.answer.specs.Checks.{AllPassed}
 use Rattle.answer.specs.Right.{RightBy, refused, judged}
 use Rattle.answer.proofs.Checks.{Among, among-every}

@@ -1,11 +1,10 @@
--- How the program answers a record. Nobody has to believe this file: `record-right` (proofs/Right.antt) says that the answer is Right.
+-- How the program answers a record. Nobody has to believe this: `record-right` (proofs/Right.antt) says that the answer is Right.
 use Rattle.cylinder.specs.Fraction.{whole}
 use Rattle.cylinder.specs.Search.{Pair, sumBounds}
 use Rattle.answer.specs.declared.Judgement.{Judgement}
 use Rattle.answer.specs.declared.Answer.{Answer}
 use Rattle.answer.specs.declared.Answer.the-variants.{Refused, Judged}
-use Rattle.answer.specs.Answers.{judgementOf}
-use Rattle.answer.specs.Answering.{firstOr}
+use Rattle.answer.specs.Answering.{firstOr, judgementOf}
 use Rattle.record.specs.declared.Record.{Record}
 use Rattle.record.specs.Limits.{checks, shellOf}
 

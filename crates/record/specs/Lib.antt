@@ -2,5 +2,5 @@
 pub mod Limits
 pub mod Right
 pub mod Trial
--- Nobody has to believe it, since `record-right` (proofs/Right.antt) says that it is Right: how the program answers a record.
+-- Nobody has to believe it, how the program answers a record: `record-right` (proofs/Right.antt) says that the answer is right.
 pub mod Answering

@@ -1,5 +1,5 @@
 -- The answers of a three-way comparison of a fraction p/q with a number that is known by its tests.
--- Nobody has to believe it: only contracts between crates speak of it.
+-- Nobody has to believe this: only contracts between crates speak of it.
 use mathlib.Core.Path.{_≡_}
 use mathlib.Core.Bool.{Bool, true, false}
 use Prim.Native.Nat.{ℕ}

@@ -1,2 +1,3 @@
+-- Nobody has to believe these: only contracts between crates speak of them.
 pub mod Degree
 pub mod Largest

@@ -1,4 +1,5 @@
 -- What holds of what a read or a write answers. Which bytes it moves, no contract can say.
+-- Nobody has to believe this: only contracts of this program speak of it.
 use Prim.Native.Nat.{ℕ, _≤_}
 use mathlib.Core.Path.{_≡_}
 use Rattle.shellsheet.specs.declared.Step.{Step}

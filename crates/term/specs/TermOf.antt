@@ -1,5 +1,5 @@
 -- The term of a stress over plain numbers: the branches of its slenderness, the yield stress, the stress as a fraction of kN/m² and the excess of the imperfection.
--- Nobody has to believe these forms: proofs/Terms.antt has that the terms of a shell are these.
+-- Nobody has to believe this: proofs/Terms.antt has that the terms of a shell are these.
 use mathlib.Core.Path.{_≡_}
 use Prim.Native.Nat.{ℕ, _*_, _^_, _<_}
 use Rattle.cylinder.specs.Cut.{Cut}

@@ -1,4 +1,4 @@
--- What code does with a slice of bytes: stores one after the other, and cuts at a byte. Nobody has to believe these definitions: the laws say
+-- What code does with a slice of bytes: stores one after the other, and cuts at a byte. Nobody has to believe this: the laws say
 -- what is written and what is cut off in terms of Bytes.
 use Prim.Native.Nat.{ℕ, _+_}
 use mathlib.Core.Bool.{Bool}

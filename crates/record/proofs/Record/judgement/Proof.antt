@@ -7,7 +7,7 @@ use native.Mathlib.Omega.{arith}
 use lib.Dec.{lit≤, lit<}
 use Rattle.cylinder.specs.Fraction.{whole, _//_}
 use Rattle.cylinder.specs.Search.{sumBounds}
-use Rattle.answer.specs.Answers.{judgementOf}
+use Rattle.answer.specs.Answering.{judgementOf}
 use Rattle.record.specs.Answering.{boundsOf}
 use Rattle.record.proofs.Checks.{ranges, shell-within}
 use Rattle.record.proofs.Loads.{load-small, bounds-are}
