@@ -10,18 +10,18 @@ use Rattle.answer.specs.declared.Answer.the-variants.{Refused, Judged}
 use Rattle.answer.specs.Answers.{verdictOf}
 use Rattle.answer.specs.Checks.{Check, FirstBroken, AllPassed}
 use Rattle.answer.specs.Right.{RightBy, refused, judged}
-use Rattle.answer.specs.Answering.{firstOr, judgementOf, Bounded}
+use Rattle.answer.specs.Answering.{firstOr, Bounded}
 use Rattle.answer.proofs.Checks.{first-or, first-once, broken-passed, numbers, Among, first-among}
 
-module _ (ks : List Check) (Claim : ℕ → ℕ → Type 0) where
-  -- the program's way through the checks gives a right answer, if L and U are right wherever no check is broken
-  pub answer-by-right : (L U : ℕ) → (AllPassed ks → Claim L U) → RightBy ks Claim (firstOr Refused (Judged (judgementOf L U)) ks)
-  answer-by-right L U claims = go (first-or Refused (Judged (judgementOf L U)) ks)
+module _ (ks : List Check) (Claim : Judgement → Type 0) where
+  -- the program's way through the checks gives a right answer, if the judgement is right wherever no check is broken
+  pub answer-by-right : (j : Judgement) → j .verdict ≡ verdictOf (j .low) (j .high) → (AllPassed ks → Claim j) → RightBy ks Claim (firstOr Refused (Judged j) ks)
+  answer-by-right j v claims = go (first-or Refused (Judged j) ks)
     where
-      go : ((n : ℕ) × (FirstBroken ks n × (firstOr Refused (Judged (judgementOf L U)) ks ≡ Refused n))) ⊎ (AllPassed ks × (firstOr Refused (Judged (judgementOf L U)) ks ≡ Judged (judgementOf L U))) →
-          RightBy ks Claim (firstOr Refused (Judged (judgementOf L U)) ks)
+      go : ((n : ℕ) × (FirstBroken ks n × (firstOr Refused (Judged j) ks ≡ Refused n))) ⊎ (AllPassed ks × (firstOr Refused (Judged j) ks ≡ Judged j)) →
+          RightBy ks Claim (firstOr Refused (Judged j) ks)
       go (inl (n, (f, e))) = rw e (refused n f)
-      go (inr (all, e)) = rw e (judged (judgementOf L U) all (claims all) refl)
+      go (inr (all, e)) = rw e (judged j all (claims all) v)
 
   -- L and U are the only free part of an answer: a refusal is the same in every right answer, and so is the verdict for given L and U
   pub same-refusal : (n : ℕ) (b : Answer) → RightBy ks Claim (Refused n) → RightBy ks Claim b → b ≡ Refused n
@@ -35,7 +35,12 @@ module _ (ks : List Check) (Claim : ℕ → ℕ → Type 0) where
   pub refused-among : (n : ℕ) → RightBy ks Claim (Refused n) → Among n (numbers ks)
   refused-among n (refused _ f) = first-among ks n f
 
-  -- L and U fit the number of an answer, if what they claim limits them
-  pub right-bounded : ((L U : ℕ) → Claim L U → (L ≤ 20000) × (U ≤ 20000)) → (a : Answer) → RightBy ks Claim a → Bounded a
+  -- where no check is broken the answer is a judgement
+  pub passed-judged : AllPassed ks → (a : Answer) → RightBy ks Claim a → (j : Judgement) × (a ≡ Judged j)
+  passed-judged all _ (refused n f) = absurd (broken-passed ks n f all)
+  passed-judged all _ (judged j p c v) = (j, refl)
+
+  -- L and U fit the number of an answer, if the claim limits them
+  pub right-bounded : ((j : Judgement) → Claim j → (j .low ≤ 20000) × (j .high ≤ 20000)) → (a : Answer) → RightBy ks Claim a → Bounded a
   right-bounded limit _ (refused n f) = tt
-  right-bounded limit _ (judged j all c v) = limit (j .low) (j .high) c
+  right-bounded limit _ (judged j all c v) = limit j c

@@ -4,7 +4,7 @@ use mathlib.Core.Bool.{Bool, true, false}
 use Prim.Native.Nat.{ℕ, _≤_, _<_}
 use native.Mathlib.Omega.{arith}
 use lib.Dec.{leb, ltb}
-use borrow.Author.Tests.{leb-true, leb-false, ltb-true, ltb-false}
+use borrow.Author.Tests.{leb-true, leb-false, ltb-true, ltb-false, le-leb, lt-leb, lt-ltb}
 use Rattle.answer.specs.declared.Verdict.the-variants.{Holds, Fails, Open}
 use Rattle.answer.specs.Answers.{verdictOf}
 
@@ -31,3 +31,10 @@ verdict-open L U h = go (leb U 10000) refl (ltb 10000 L) refl
     go true e y f = absurd (let v : Holds ≡ Open = rw e at h in let z : _≡_ {A = ℕ} 0 1 = cc in omega arith)
     go false e true f = absurd (let v : Fails ≡ Open = rw (e, f) at h in let z : _≡_ {A = ℕ} 0 1 = cc in omega arith)
     go false e false f = (leb-false U 10000 e, ltb-false 10000 L f)
+
+-- and which verdict L and U have
+pub holds-verdict : (L U : ℕ) → U ≤ 10000 → verdictOf L U ≡ Holds
+holds-verdict L U h = rw (le-leb U 10000 h) refl
+
+pub fails-verdict : (L U : ℕ) → 10000 < L → 10000 < U → verdictOf L U ≡ Fails
+fails-verdict L U l u = rw (lt-leb U 10000 u, lt-ltb 10000 L l) refl

@@ -10,7 +10,7 @@ use Rattle.cylinder.specs.declared.Shell.{Shell}
 use Rattle.cylinder.specs.Fraction.{Fraction, _//_, whole, tenths, hundredths, thousandths, _⊕_, _⊗_, _⊘_, _↑_}
 use Rattle.cylinder.specs.Number.{Number, exactly, plusRoot, minusRoot, scaled}
 use Rattle.algebra.specs.Choice.{pick}
-use Rattle.cylinder.specs.Ideal.{E, fy, η, Cφ, r/t, t/r, r/l, l/r, axialShort, shortCx, longCx, ringShort, ringShortStress, ringLongStress, shearShort, shearShortSquare, shearLongSquare}
+use Rattle.cylinder.specs.Ideal.{E, fy, η, Cφ, r/t, t/r, r/l, l/r, axialShort, shortCx, longCx, ringShort, idealRingShort, idealRingLong, shearShort, idealShearShortSquare, idealShearLongSquare}
 use Rattle.cylinder.specs.Resistance.{slender, slenderShear, axialS, ringS, shearS}
 use Rattle.cylinder.specs.Cut.{Cut, fraction, rootOf}
 use Rattle.cylinder.specs.WholeIdeal
@@ -269,7 +269,7 @@ module _ (s : Shell) (ok : Sound s) where
       again (times (times (times (times (self 92 100) Cφ-like) (self (s .modulus) 1)) r/l-like) t/r-like) 1 (4 * s .radius) _ _ (lit< tt)
       (mul-pos {m = 4} (lit< tt) (ok .radius)) (omega arith) (omega arith)
 
-  ring-short-agree : Agree (slender (fy s) (ringShortStress s)) (WholeIdeal.ringShortCut s)
+  ring-short-agree : Agree (slender (fy s) (idealRingShort s)) (WholeIdeal.ringShortCut s)
   ring-short-agree =
       record {
         reaches = λ p q. at-most root (power (at-2 (s .«yield_stress») p q) 2) ∙ ap₂ leb (up (p ^ 2)) (down (q ^ 2));
@@ -302,14 +302,14 @@ module _ (s : Shell) (ok : Sound s) where
       (omega arith) (omega arith)))
       1 (s .wall ^ 2) _ _ (lit< tt) (one-le-pow 2 (s .wall) (ok .wall)) (omega arith) (simp pow-two (omega arith))
 
-  ring-long-agree : Agree (slender (fy s) (ringLongStress s)) (WholeIdeal.ringLongCut s)
+  ring-long-agree : Agree (slender (fy s) (idealRingLong s)) (WholeIdeal.ringLongCut s)
   ring-long-agree = exact-2 (s .«yield_stress») long-like
 
   -- S of (2)
   pub ring-agree : Agree (ringS s) (WholeIdeal.ringCut s)
   ring-agree =
       rw ring-short
-      (either (slender (fy s)) (WholeIdeal.ringIsShort s) (ringShortStress s) (ringLongStress s) (WholeIdeal.ringShortCut s) (WholeIdeal.ringLongCut s) ring-short-agree
+      (either (slender (fy s)) (WholeIdeal.ringIsShort s) (idealRingShort s) (idealRingLong s) (WholeIdeal.ringShortCut s) (WholeIdeal.ringLongCut s) ring-short-agree
       ring-long-agree)
 
   -- shear
@@ -333,7 +333,7 @@ module _ (s : Shell) (ok : Sound s) where
       (640000 * s .length * s .radius * s .«yield_stress» ^ 2 * q ^ 4) (27 * s .modulus ^ 2 * s .wall ^ 2 * p ^ 4)
   at-shear p q = again (per (at-4 (s .«yield_stress») p q) shear-base) 1 1 _ _ (lit< tt) (lit< tt) (omega arith) (omega arith)
 
-  shear-short-agree : Agree (slenderShear (fy s) (shearShortSquare s)) (WholeIdeal.shearShortCut s)
+  shear-short-agree : Agree (slenderShear (fy s) (idealShearShortSquare s)) (WholeIdeal.shearShortCut s)
   shear-short-agree =
       record {
         reaches = λ p q.
@@ -368,12 +368,12 @@ module _ (s : Shell) (ok : Sound s) where
       again (times (times (power (self 25 100) 2) (power (self (s .modulus) 1) 2)) (power t/r-like 3)) 1 625 _ _ (lit< tt) (lit< tt) (omega arith)
       (simp pow-three (omega arith))
 
-  shear-long-agree : Agree (slenderShear (fy s) (shearLongSquare s)) (WholeIdeal.shearLongCut s)
+  shear-long-agree : Agree (slenderShear (fy s) (idealShearLongSquare s)) (WholeIdeal.shearLongCut s)
   shear-long-agree = exact-4 (s .«yield_stress») (3 * s .modulus ^ 2 * s .wall ^ 3) (omega arith) shear-long-like
 
   -- S of (3)
   pub shear-agree : Agree (shearS s) (WholeIdeal.shearCut s)
   shear-agree =
       rw shear-short
-      (either (slenderShear (fy s)) (WholeIdeal.shearIsShort s) (shearShortSquare s) (shearLongSquare s) (WholeIdeal.shearShortCut s) (WholeIdeal.shearLongCut s) shear-short-agree
+      (either (slenderShear (fy s)) (WholeIdeal.shearIsShort s) (idealShearShortSquare s) (idealShearLongSquare s) (WholeIdeal.shearShortCut s) (WholeIdeal.shearLongCut s) shear-short-agree
       shear-long-agree)

@@ -19,14 +19,14 @@ use Rattle.cylinder.proofs.SumBounds.{axial-bracket, ring-bracket, shea
 -- ---- every term reaches 0, and that of a stress of 0 nothing else
 
 module _ (Branch : Type 0) (branch : Number → Branch) (S : Number) where
-  nothing : (σ : Fraction) (test test' : Branch → Fraction → Bool) (b : ℕ) → ((br : Branch) (g : Fraction) → test' br g ≡ true) →
-      Reaches Branch branch S σ test b → Reaches Branch branch S σ test' 0
-  nothing σ test test' b easy (unloaded z e) = unloaded z refl
-  nothing σ test test' b easy (loaded pos g den reached inside holds) = loaded pos g den reached inside (easy (branch S) g)
+  nothing : (σ : Fraction) (test : ℕ → ℕ → Branch → Fraction → Bool) (b N M : ℕ) → ((br : Branch) (g : Fraction) → test 0 M br g ≡ true) →
+      Reaches Branch branch S σ test b N → Reaches Branch branch S σ test 0 M
+  nothing σ test b N M easy (unloaded z e) = unloaded z refl
+  nothing σ test b N M easy (loaded pos g den reached inside holds) = loaded pos g den reached inside (easy (branch S) g)
 
-  none : (test : Branch → Fraction → Bool) (b : ℕ) → Reaches Branch branch S (whole 0) test b → b ≡ 0
-  none test b (unloaded z e) = e
-  none test b (loaded pos g den reached inside holds) = absurd (omega arith)
+  none : (test : ℕ → ℕ → Branch → Fraction → Bool) (b N : ℕ) → Reaches Branch branch S (whole 0) test b N → b ≡ 0
+  none test b N (unloaded z e) = e
+  none test b N (loaded pos g den reached inside holds) = absurd (omega arith)
 
 no-power : (N : ℕ) (u : Fraction) → power-1·25 u .reaches (0 // N) ≡ true
 no-power N u = le-leb (0 ^ 4 * (u ↑ 5) .den) ((u ↑ 5) .num * N ^ 4) (omega arith)
@@ -37,17 +37,17 @@ no-square N u = le-leb (0 * u .den) (u .num * N) (omega arith)
 module _ (s : Shell) (ok : Sound s) where
   pub axial-0 : (σ : Fraction) (N : ℕ) → AxialReaches s σ 0 N
   axial-0 σ N =
-      nothing Branch2 branch2 (axialS s) σ (axialTest s σ _ 1000000) (axialTest s σ 0 N) _ (λ br g. no-power N (σ ⊘ (whole 1000 ⊗ axialR s br g)))
+      nothing Branch2 branch2 (axialS s) σ (axialTest s σ) _ 1000000 N (λ br g. no-power N (σ ⊘ (whole 1000 ⊗ axialR s br g)))
       (axial-bracket s ok σ .reached)
 
   pub ring-0 : (σ : Fraction) (N : ℕ) → RingReaches s σ 0 N
   ring-0 σ N =
-      nothing Branch1 branch1 (ringS s) σ (ringTest s σ _ 1000000) (ringTest s σ 0 N) _ (λ br g. no-power N (σ ⊘ (whole 1000 ⊗ ringR s br g)))
+      nothing Branch1 branch1 (ringS s) σ (ringTest s σ) _ 1000000 N (λ br g. no-power N (σ ⊘ (whole 1000 ⊗ ringR s br g)))
       (ring-bracket s ok σ .reached)
 
   pub shear-0 : (τ : Fraction) (N : ℕ) → ShearReaches s τ 0 N
   shear-0 τ N =
-      nothing Branch1 branch1 (shearS s) τ (shearTest s τ _ 1000000) (shearTest s τ 0 N) _
+      nothing Branch1 branch1 (shearS s) τ (shearTest s τ) _ 1000000 N
       (λ br g. no-square N (τ ↑ 2 ⊘ (whole 1000 ↑ 2 ⊗ shearRSquare s br g))) (shear-bracket s ok τ .reached)
 
 -- ---- the sum of three terms is at most x/y, and so is each
@@ -87,7 +87,7 @@ module _ (s : Shell) (ok : Sound s) (σx σφ τ : Fraction) (x y : ℕ) (h : At
       omega (
         arith,
         axial-below (o .b) (o .N) (o .positive) (o .first),
-        rw (none Branch1 branch1 (ringS s) _ (o .c) (o .second), none Branch1 branch1 (shearS s) _ (o .d) (o .third)) at (o .over),
+        rw (none Branch1 branch1 (ringS s) _ (o .c) (o .N) (o .second), none Branch1 branch1 (shearS s) _ (o .d) (o .N) (o .third)) at (o .over),
       )
 
   pub ring-alone : AtMost (Over s (whole 0) σφ (whole 0)) x y
@@ -95,7 +95,7 @@ module _ (s : Shell) (ok : Sound s) (σx σφ τ : Fraction) (x y : ℕ) (h : At
       omega (
         arith,
         ring-below (o .c) (o .N) (o .positive) (o .second),
-        rw (none Branch2 branch2 (axialS s) _ (o .b) (o .first), none Branch1 branch1 (shearS s) _ (o .d) (o .third)) at (o .over),
+        rw (none Branch2 branch2 (axialS s) _ (o .b) (o .N) (o .first), none Branch1 branch1 (shearS s) _ (o .d) (o .N) (o .third)) at (o .over),
       )
 
   pub shear-alone : AtMost (Over s (whole 0) (whole 0) τ) x y
@@ -103,7 +103,7 @@ module _ (s : Shell) (ok : Sound s) (σx σφ τ : Fraction) (x y : ℕ) (h : At
       omega (
         arith,
         shear-below (o .d) (o .N) (o .positive) (o .third),
-        rw (none Branch2 branch2 (axialS s) _ (o .b) (o .first), none Branch1 branch1 (ringS s) _ (o .c) (o .second)) at (o .over),
+        rw (none Branch2 branch2 (axialS s) _ (o .b) (o .N) (o .first), none Branch1 branch1 (ringS s) _ (o .c) (o .N) (o .second)) at (o .over),
       )
 
 -- ---- the ratios themselves
@@ -130,7 +130,7 @@ AtMostOne Branch branch S f = (g : Fraction) → 0 < g .den → S .reaches g ≡
 module _ (Branch : Type 0) (branch : Number → Branch) (S : Number) (σ : Fraction) (power : Fraction → Number) (ratio : Branch → Fraction → Fraction)
     (unloaded-ratio : σ .num ≡ 0 → (br : Branch) (g : Fraction) → (ratio br g atMost whole 1) ≡ true)
     (most-one : (u : Fraction) → ((b N : ℕ) → 0 < N → power u .reaches (b // N) ≡ true → b * 1 ≤ 1 * N) → (u atMost whole 1) ≡ true) where
-  kept : ((b N : ℕ) → 0 < N → Reaches Branch branch S σ (λ br g. power (ratio br g) .reaches (b // N)) b → b * 1 ≤ 1 * N) → AtMostOne Branch branch S ratio
+  kept : ((b N : ℕ) → 0 < N → Reaches Branch branch S σ (λ b N br g. power (ratio br g) .reaches (b // N)) b N → b * 1 ≤ 1 * N) → AtMostOne Branch branch S ratio
   kept below g den reached inside = go (σ .num) refl
     where
       go : (x : ℕ) → σ .num ≡ x → (ratio (branch S) g atMost whole 1) ≡ true

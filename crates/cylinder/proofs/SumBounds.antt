@@ -76,7 +76,7 @@ module _ (Branch : Type 0) (branch : Number → Branch) (S : Number) (c : Cut) (
   In p q = branch (exactly (p // q)) ≡ branch (asNumber c)
 
   abbrev R : ℕ → ℕ → Type 0
-  R b n = Reaches Branch branch S σ (test b n) b
+  R = Reaches Branch branch S σ test
 
   worked-in : (p q b n : ℕ) → In p q → test b n (branch S) (p // q) ≡ formula t p q b n
   worked-in p q b n inside = ap (λ (x : Branch). test b n x (p // q)) branches ∙ worked p q b n inside

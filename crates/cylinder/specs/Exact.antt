@@ -1,22 +1,23 @@
--- Document 01, "The sum and what exact means": what is said of an exact sum, whatever its terms are. A sum is given by the test "over x/y".
+-- Document 01, "The sum and what exact means": what is said of an exact sum, whatever its terms are. A sum is given by what it exceeds:
+-- by the predicate "over x/y".
 use Prim.Native.Nat.{ℕ, _+_, _*_, _<_, _≤_}
 
 -- it is at most x/y if it is not over x/y
 abbrev pub AtMost : (ℕ → ℕ → Type 0) → ℕ → ℕ → Type 0
-AtMost Over x y = ¬ (Over x y)
+AtMost Exceeds x y = ¬ (Exceeds x y)
 
 -- it is at least x/y if it is over every smaller fraction
 abbrev pub AtLeast : (ℕ → ℕ → Type 0) → ℕ → ℕ → Type 0
-AtLeast Over x y = (u v : ℕ) → u * y < x * v → Over u v
+AtLeast Exceeds x y = (u v : ℕ) → u * y < x * v → Exceeds u v
 
 -- what L and U claim, in ten-thousandths
-pub record Encloses (Over : ℕ → ℕ → Type 0) (L U : ℕ) : Type 0 where
-  pub at-least : AtLeast Over L 10000
-  pub at-most : U < 20000 → AtMost Over U 10000
+pub record Encloses (Exceeds : ℕ → ℕ → Type 0) (L U : ℕ) : Type 0 where
+  pub at-least : AtLeast Exceeds L 10000
+  pub at-most : U < 20000 → AtMost Exceeds U 10000
   pub L-most : L ≤ 20000
   pub U-most : U ≤ 20000
 
--- and how far apart they are: document 01 allows 100, and 2 are kept
+-- and how far apart they are: document 01 allows 100, and 2 are kept (decision 26)
 abbrev pub Close : ℕ → ℕ → Type 0
 Close L U = U ≤ L + 2
 

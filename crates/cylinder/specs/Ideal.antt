@@ -6,7 +6,7 @@ use Rattle.cylinder.specs.Fraction.{Fraction, _//_, whole, tenths, hundr
 use Rattle.cylinder.specs.Number.{Number, exactly, timesRoot, plusRoot, minusRoot, scaled, larger}
 use Rattle.algebra.specs.Choice.{pick}
 
--- r, t, l in mm (the shell's wall is in 200ths of a mm), E and fy in N/mm²
+-- r, t, l in mm, E and fy in N/mm². The shell's wall is in 200ths of a mm (decision 27); it is the nominal one (decision 56).
 abbrev pub r : Shell → Fraction
 r s = whole (s .radius)
 
@@ -38,7 +38,7 @@ l/r s = l s ⊘ r s
 abbrev pub η : Shell → Fraction
 η s = pick (eqb (s .edges) 11) (whole 6) (pick (eqb (s .edges) 12) (whole 3) (whole 1))
 
--- element 412, table 2: 1.5, 1.25, 1 for edges 11, 12, 22
+-- element 412, table 2: 1.5, 1.25, 1 for edges 11, 12, 22. Decision 4: Cφ* is not used.
 abbrev pub Cφ : Shell → Fraction
 Cφ s = pick (eqb (s .edges) 11) (tenths 1_5) (pick (eqb (s .edges) 12) (hundredths 1_25) (whole 1))
 
@@ -61,8 +61,8 @@ abbrev pub Cx : Shell → Number
 Cx s = pick (axialShort s) (shortCx s) (longCx s)
 
 -- (26): 0.605 Cx E (t/r)
-abbrev pub axialStress : Shell → Number
-axialStress s = scaled (thousandths 0_605 ⊗ E s ⊗ t/r s) (Cx s)
+abbrev pub idealAxial : Shell → Number
+idealAxial s = scaled (thousandths 0_605 ⊗ E s ⊗ t/r s) (Cx s)
 
 -- ---- ring, elements 412 and 413
 
@@ -71,15 +71,15 @@ abbrev pub ringShort : Shell → Bool
 ringShort s = l/r s ↑ 2 atMost (hundredths 1_63 ⊗ Cφ s) ↑ 2 ⊗ r/t s
 
 -- (34): 0.92 Cφ E (r/l) (t/r)^1.5, where (t/r)^1.5 is (t/r) √(t/r)
-abbrev pub ringShortStress : Shell → Number
-ringShortStress s = timesRoot (hundredths 0_92 ⊗ Cφ s ⊗ E s ⊗ r/l s ⊗ t/r s) (t/r s)
+abbrev pub idealRingShort : Shell → Number
+idealRingShort s = timesRoot (hundredths 0_92 ⊗ Cφ s ⊗ E s ⊗ r/l s ⊗ t/r s) (t/r s)
 
 -- (36): E (t/r)² (0.275 + 2.03 (Cφ/((l/r) √(t/r)))⁴); the fourth power of √(t/r) is (t/r)². Decision 1: 003 prints √(r/t).
-abbrev pub ringLongStress : Shell → Number
-ringLongStress s = exactly (E s ⊗ t/r s ↑ 2 ⊗ (thousandths 0_275 ⊕ hundredths 2_03 ⊗ (Cφ s ↑ 4 ⊘ (l/r s ↑ 4 ⊗ t/r s ↑ 2))))
+abbrev pub idealRingLong : Shell → Number
+idealRingLong s = exactly (E s ⊗ t/r s ↑ 2 ⊗ (thousandths 0_275 ⊕ hundredths 2_03 ⊗ (Cφ s ↑ 4 ⊘ (l/r s ↑ 4 ⊗ t/r s ↑ 2))))
 
-abbrev pub ringStress : Shell → Number
-ringStress s = pick (ringShort s) (ringShortStress s) (ringLongStress s)
+abbrev pub idealRing : Shell → Number
+idealRing s = pick (ringShort s) (idealRingShort s) (idealRingLong s)
 
 -- ---- shear, elements 416 and 417: the square of the stress, since √√(t/r) is in the stress itself
 
@@ -90,13 +90,13 @@ shearShort s = l/r s ↑ 2 atMost tenths 8_7 ↑ 2 ⊗ r/t s
 -- (39), (40): 0.75 Cτ E (r/l)^0.5 (t/r)^1.25 with Cτ² = 1 + 42 (r/l)³ (t/r)^1.5.
 -- The square is 0.75² Cτ² E² (r/l) (t/r)² √(t/r), which is 0.75² E² (r/l) (t/r)² times 42 (r/l)³ (t/r)² + 1 √(t/r).
 -- Decision 2: 003 prescribes Cτ = 1 and permits (40).
-abbrev pub shearShortSquare : Shell → Number
-shearShortSquare s =
+abbrev pub idealShearShortSquare : Shell → Number
+idealShearShortSquare s =
     scaled (hundredths 0_75 ↑ 2 ⊗ E s ↑ 2 ⊗ r/l s ⊗ t/r s ↑ 2) (plusRoot (whole 42 ⊗ r/l s ↑ 3 ⊗ t/r s ↑ 2) (whole 1) (t/r s))
 
 -- (42): 0.25 E (t/r)^1.5
-abbrev pub shearLongSquare : Shell → Number
-shearLongSquare s = exactly (hundredths 0_25 ↑ 2 ⊗ E s ↑ 2 ⊗ t/r s ↑ 3)
+abbrev pub idealShearLongSquare : Shell → Number
+idealShearLongSquare s = exactly (hundredths 0_25 ↑ 2 ⊗ E s ↑ 2 ⊗ t/r s ↑ 3)
 
-abbrev pub shearSquare : Shell → Number
-shearSquare s = pick (shearShort s) (shearShortSquare s) (shearLongSquare s)
+abbrev pub idealShearSquare : Shell → Number
+idealShearSquare s = pick (shearShort s) (idealShearShortSquare s) (idealShearLongSquare s)

@@ -6,7 +6,7 @@ use Rattle.cylinder.specs.declared.Shell.{Shell}
 use Rattle.cylinder.specs.Fraction.{Fraction, whole, tenths, hundredths, thousandths, _⊕_, _⊖_, _⊗_, _⊘_, _↑_}
 use Rattle.cylinder.specs.Number.{Number}
 use Rattle.algebra.specs.Choice.{pick}
-use Rattle.cylinder.specs.Ideal.{fy, axialStress, ringStress, shearSquare}
+use Rattle.cylinder.specs.Ideal.{fy, idealAxial, idealRing, idealShearSquare}
 
 -- ---- slenderness, element 202
 
@@ -19,13 +19,13 @@ abbrev pub slenderShear : Fraction → Number → Number
 slenderShear f square = record { reaches = λ g. square .within (f ↑ 2 ⊘ (whole 3 ⊗ g ↑ 4)); within = λ g. square .reaches (f ↑ 2 ⊘ (whole 3 ⊗ g ↑ 4)) }
 
 abbrev pub axialS : Shell → Number
-axialS s = slender (fy s) (axialStress s)
+axialS s = slender (fy s) (idealAxial s)
 
 abbrev pub ringS : Shell → Number
-ringS s = slender (fy s) (ringStress s)
+ringS s = slender (fy s) (idealRing s)
 
 abbrev pub shearS : Shell → Number
-shearS s = slenderShear (fy s) (shearSquare s)
+shearS s = slenderShear (fy s) (idealShearSquare s)
 
 -- ---- the branches in which a number lies: its answers at the limits of the curves
 
@@ -91,16 +91,24 @@ abbrev pub γ2 : Branch2 → Fraction → Fraction
     pick (br .upTo-0·25) (tenths 1_1)
     (pick (br .from-2) (hundredths 1_45) (tenths 1_1 ⊗ (whole 1 ⊕ thousandths 0_318 ⊗ (g ⊖ hundredths 0_25) ⊘ hundredths 1_75)))
 
+-- ---- the factors reduced by the tolerance, "red κ" of (23)
+
+abbrev pub reducedκ1 : Shell → Branch1 → Fraction → Fraction
+reducedκ1 s br g = κ1 br g ⊗ tolerance (br .from-1·5) (q s) g
+
+abbrev pub reducedκ2 : Shell → Branch2 → Fraction → Fraction
+reducedκ2 s br g = κ2 br g ⊗ tolerance (br .from-1·5) (q s) g
+
 -- ---- design resistance R in N/mm², elements 203 and 205
 
 -- (4), (9): κ fy over the factor
 abbrev pub axialR : Shell → Branch2 → Fraction → Fraction
-axialR s br g = κ2 br g ⊗ tolerance (br .from-1·5) (q s) g ⊗ fy s ⊘ γ2 br g
+axialR s br g = reducedκ2 s br g ⊗ fy s ⊘ γ2 br g
 
 -- (5), (10)
 abbrev pub ringR : Shell → Branch1 → Fraction → Fraction
-ringR s br g = κ1 br g ⊗ tolerance (br .from-1·5) (q s) g ⊗ fy s ⊘ γ1
+ringR s br g = reducedκ1 s br g ⊗ fy s ⊘ γ1
 
 -- (6), (11): the square, that of κ fy/√3 over the factor. Decision 11: 003 prints κ = fy/√3.
 abbrev pub shearRSquare : Shell → Branch1 → Fraction → Fraction
-shearRSquare s br g = (κ1 br g ⊗ tolerance (br .from-1·5) (q s) g) ↑ 2 ⊗ (fy s ↑ 2 ⊘ whole 3) ⊘ γ1 ↑ 2
+shearRSquare s br g = reducedκ1 s br g ↑ 2 ⊗ (fy s ↑ 2 ⊘ whole 3) ⊘ γ1 ↑ 2

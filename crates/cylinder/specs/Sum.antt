@@ -1,4 +1,5 @@
--- Document 01, "The sum and what exact means": DIN 18800-4, element 426, condition (50). Stresses are fractions of kN/m².
+-- Document 01, "The sum and what exact means": DIN 18800-4, element 426, condition (50). The single checks (14) to (16), which
+-- 003 asks for too, follow from a sum of at most 1 (proofs/Single.antt). Stresses are fractions of kN/m².
 use Prim.Native.Nat.{ℕ, _<_}
 use mathlib.Core.Bool.{Bool, true}
 use mathlib.Core.Path.{_≡_}
@@ -22,22 +23,21 @@ ringTest s σ b N br g = power-1·25 (σ ⊘ (whole 1000 ⊗ ringR s br g)) .rea
 abbrev pub shearTest : Shell → Fraction → ℕ → ℕ → Branch1 → Fraction → Bool
 shearTest s τ b N br g = b // N atMost τ ↑ 2 ⊘ (whole 1000 ↑ 2 ⊗ shearRSquare s br g)
 
--- ---- a term reaches b/N. The term of a stress of 0 is 0. That of a stress above 0 reaches b/N if S reaches some fraction g, in the same branches as S,
--- at which the formula gives a term that reaches b/N.
+-- ---- a term reaches b/N: for a stress of 0 only 0; for another, if the formula does at some fraction g that S reaches, in the branches of S
 
-pub data Reaches (Branch : Type 0) (branch : Number → Branch) (S : Number) (stress : Fraction) (test : Branch → Fraction → Bool) (b : ℕ) : Type 0 where
-  unloaded : stress .num ≡ 0 → b ≡ 0 → Reaches Branch branch S stress test b
-  loaded : 0 < stress .num → (g : Fraction) → 0 < g .den → S .reaches g ≡ true → branch (exactly g) ≡ branch S → test (branch S) g ≡ true →
-      Reaches Branch branch S stress test b
+pub data Reaches (Branch : Type 0) (branch : Number → Branch) (S : Number) (stress : Fraction) (test : ℕ → ℕ → Branch → Fraction → Bool) (b N : ℕ) : Type 0 where
+  unloaded : stress .num ≡ 0 → b ≡ 0 → Reaches Branch branch S stress test b N
+  loaded : 0 < stress .num → (g : Fraction) → 0 < g .den → S .reaches g ≡ true → branch (exactly g) ≡ branch S → test b N (branch S) g ≡ true →
+      Reaches Branch branch S stress test b N
 
 abbrev pub AxialReaches : Shell → Fraction → ℕ → ℕ → Type 0
-AxialReaches s σ b N = Reaches Branch2 branch2 (axialS s) σ (axialTest s σ b N) b
+AxialReaches s σ = Reaches Branch2 branch2 (axialS s) σ (axialTest s σ)
 
 abbrev pub RingReaches : Shell → Fraction → ℕ → ℕ → Type 0
-RingReaches s σ b N = Reaches Branch1 branch1 (ringS s) σ (ringTest s σ b N) b
+RingReaches s σ = Reaches Branch1 branch1 (ringS s) σ (ringTest s σ)
 
 abbrev pub ShearReaches : Shell → Fraction → ℕ → ℕ → Type 0
-ShearReaches s τ b N = Reaches Branch1 branch1 (shearS s) τ (shearTest s τ b N) b
+ShearReaches s τ = Reaches Branch1 branch1 (shearS s) τ (shearTest s τ)
 
 -- ---- the sum (50) is over x/y
 

@@ -16,16 +16,16 @@ use Rattle.answer.specs.declared.Answer.{Answer}
 use Rattle.answer.specs.Checks.{FirstBroken, AllPassed}
 use Rattle.answer.proofs.Checks.{first-or, first-broken, all-passed, first-among, among-every}
 use Rattle.reading.specs.Answering.{answerTo}
-use Rattle.reading.proofs.Answers.{answer-right}
+use Rattle.reading.proofs.Answers.{answer-right, line-means}
+use Rattle.listing.specs.declared.Counts.{Counts}
 use Rattle.listing.specs.Listing.{entry, entries, count, counts, total, joined, listingOf}
 use Rattle.listing.proofs.Totals.{count-sum}
 use Rattle.listing.proofs.Lines.{listing-lines, entries-length, entries-at}
 use Rattle.outcome.specs.declared.Outcome.{Outcome}
-use Rattle.outcome.specs.Sheet.{lineAt, answersBy, listingBy, sheetChecks, turnedBack}
-use Rattle.outcome.specs.Running.{answers, listing, listedOutcome, outcome}
-use Rattle.outcome.specs.Demand3.{printed, Listed, Run, Demand3, turned, listed}
-use Rattle.outcome.proofs.Verdicts.{line-holds, line-fails, line-open}
-use Rattle.outcome.proofs.Laws.{sheet-room, Accepted, accepted}
+use Rattle.outcome.specs.Sheet.{lineAt, answersBy, listingBy, sheetChecks, turnedBack, listedBy}
+use Rattle.outcome.specs.Running.{listing, outcome}
+use Rattle.outcome.specs.Demand3.{Run, turned, listed, written, ReadBack, Demand3}
+use Rattle.outcome.proofs.Laws.{sheet-room, accepted}
 
 -- ---- the listing by a rule, cut into lines
 
@@ -54,45 +54,63 @@ module _ (rule : List ℕ → Answer) (sheet : List ℕ) where
       ap (λ (ls : List (List ℕ)). getD ls (length (lines sheet)) []) listing-cut
       ∙ getD-at (entries 1 (answersBy rule sheet)) _ [] [] (length (lines sheet)) (entries-length 1 (answersBy rule sheet) ∙ answers-count)
 
-  -- "A sheet that is not empty and lacks the last newline, and the same sheet with it, have the same listing"
+  -- with the last newline and without it
   pub final-listing : lacksNewline sheet ≡ true → listingBy rule (sheet ++ (10 ∷ [])) ≡ listingBy rule sheet
   unfolding listingBy
   final-listing h = ap (λ (ls : List (List ℕ)). listingOf (map rule ls)) (lines-final sheet h)
+
+  pub final-listed : lacksNewline sheet ≡ true → listedBy rule (sheet ++ (10 ∷ [])) ≡ listedBy rule sheet
+  unfolding listingBy
+  final-listed h =
+      ap (λ (ls : List (List ℕ)). record { refusal = 0; counts = counts (map rule ls); length = length (listingOf (map rule ls)) }) (lines-final sheet h)
 
   pub empty-listing : sheet ≡ [] → listingBy rule sheet ≡ ascii "(total 0 0 0 0 0)\n"
   unfolding listingBy listingOf lines entries joined total count decimal digits
   empty-listing e = rw e refl
 
--- what is printed of an accepted sheet is its listing
-module _ (sheet out : List ℕ) where
-  cut-at : take (length (listing sheet)) (listing sheet ++ drop (length (listing sheet)) out) ≡ listing sheet
-  cut-at = take-at (listing sheet) _ (length (listing sheet)) refl
+-- ---- a run by a rule that was not turned back
 
-  abbrev Printed : List ℕ → Type 0
-  Printed l =
-      (length (lines l) ≡ length (lines sheet) + 1) × (((k : ℕ) → k < length (lines sheet) → lineAt l k ≡ entry (k + 1) (answerTo (lineAt sheet k)))
-      × (lineAt l (length (lines sheet)) ≡ total (counts (answers sheet))))
+-- no check has the number 0
+turned-positive : (sheet : List ℕ) (room n : ℕ) → FirstBroken (sheetChecks sheet room) n → 0 < n
+turned-positive sheet room n f = among-every (λ i. 0 < i) (1 ∷ 2 ∷ 3 ∷ []) n (first-among (sheetChecks sheet room) n f) (lit< tt, (lit< tt, (lit< tt, tt)))
 
-  printed-right : Printed (take (length (listing sheet)) (listing sheet ++ drop (length (listing sheet)) out))
-  printed-right = subst Printed (sym cut-at) (listing-count answerTo sheet, (listing-at answerTo sheet, listing-last answerTo sheet))
+module _ (rule : List ℕ → Answer) (sheet out : List ℕ) (r : Outcome) (out′ : List ℕ) (run : Run rule sheet out r out′) (z : r .refusal ≡ 0) where
+  run-listed : AllPassed (sheetChecks sheet (length out)) × ((r ≡ listedBy rule sheet) × (out′ ≡ listingBy rule sheet ++ drop (length (listingBy rule sheet)) out))
+  run-listed = go run
+    where
+      go : Run rule sheet out r out′ →
+          AllPassed (sheetChecks sheet (length out)) × ((r ≡ listedBy rule sheet) × (out′ ≡ listingBy rule sheet ++ drop (length (listingBy rule sheet)) out))
+      go (turned n f e o) = absurd (omega (arith, ap (λ (q : Outcome). q .refusal) e, turned-positive sheet (length out) n f))
+      go (listed all e o) = (all, (e, o))
 
-  sheet-listed : Accepted sheet (length out) → Listed answerTo sheet out (listedOutcome sheet) (listing sheet ++ drop (length (listing sheet)) out)
-  sheet-listed a =
-      let n = length (listing sheet) in
-      let size = length-append (listing sheet) (drop n out) in
-      let p = printed-right in
+  pub run-written : written r out′ ≡ listingBy rule sheet
+  run-written =
+      let (all, (e, o)) = run-listed in
+      (λ i. take (e i .length) (o i)) ∙ take-at (listingBy rule sheet) _ (length (listingBy rule sheet)) refl
+
+  abbrev Lines : List ℕ → Type 0
+  Lines l =
+      (length (lines l) ≡ length (lines sheet) + 1) × (((k : ℕ) → k < length (lines sheet) → lineAt l k ≡ entry (k + 1) (rule (lineAt sheet k)))
+      × (lineAt l (length (lines sheet)) ≡ total (counts (answersBy rule sheet))))
+
+  run-lines : Lines (written r out′)
+  run-lines = subst Lines (sym run-written) (listing-count rule sheet, (listing-at rule sheet, listing-last rule sheet))
+
+  -- the listing has room in the buffer, if a right rule gives the answers
+  pub run-read-back : length (listingBy rule sheet) ≤ length out → ReadBack rule sheet out r out′
+  run-read-back room =
+      let (all, (e, o)) = run-listed in
+      let n = length (listingBy rule sheet) in
+      let size : length out′ ≡ length out = ap length o ∙ length-append (listingBy rule sheet) (drop n out) ∙ omega (arith, length-drop n out) in
+      let counted : r .counts ≡ counts (answersBy rule sheet) = ap (λ (q : Outcome). q .counts) e in
       record {
-        returned = refl;
-        counted = refl;
-        size = refl;
-        bytes = refl;
-        fits = omega arith;
-        same-size = omega (arith, length-drop n out, sheet-room sheet (a .few), a .enough);
-        line-count = p .0;
-        line-at = p .1 .0;
-        last = p .1 .1;
-        lines-are = answers-count answerTo sheet;
-        sum = count-sum (answers sheet);
+        fits = omega (arith, ap (λ (q : Outcome). q .length) e);
+        same-size = size;
+        line-count = run-lines .0;
+        line-at = run-lines .1 .0;
+        last = run-lines .1 .1 ∙ ap total (sym counted);
+        lines-are = ap (λ (q : Counts). q .lines) counted ∙ answers-count rule sheet;
+        counted-once = subst (λ (q : Counts). q .lines ≡ q .holds + q .fails + q .opens + q .refused) (sym counted) (count-sum (answersBy rule sheet));
       }
 
 -- ---- demand 3
@@ -101,41 +119,56 @@ module _ (sheet out : List ℕ) where
   broken-outcome : (n : ℕ) → FirstBroken (sheetChecks sheet (length out)) n → outcome sheet out ≡ (turnedBack n, out)
   unfolding outcome
   broken-outcome n f =
-      first-broken (λ m. (turnedBack m, out)) (listedOutcome sheet, listing sheet ++ drop (length (listing sheet)) out) (sheetChecks sheet (length out)) n f
+      first-broken (λ m. (turnedBack m, out)) (listedBy answerTo sheet, listing sheet ++ drop (length (listing sheet)) out) (sheetChecks sheet (length out)) n f
 
-  passed-outcome : AllPassed (sheetChecks sheet (length out)) → outcome sheet out ≡ (listedOutcome sheet, listing sheet ++ drop (length (listing sheet)) out)
+  passed-outcome : AllPassed (sheetChecks sheet (length out)) → outcome sheet out ≡ (listedBy answerTo sheet, listing sheet ++ drop (length (listing sheet)) out)
   unfolding outcome
   passed-outcome all =
-      all-passed (λ m. (turnedBack m, out)) (listedOutcome sheet, listing sheet ++ drop (length (listing sheet)) out) (sheetChecks sheet (length out)) all
+      all-passed (λ m. (turnedBack m, out)) (listedBy answerTo sheet, listing sheet ++ drop (length (listing sheet)) out) (sheetChecks sheet (length out)) all
 
 run-right : (sheet out : List ℕ) → Run answerTo sheet out (outcome sheet out .0) (outcome sheet out .1)
 unfolding outcome
-run-right sheet out = go (first-or (λ n. (turnedBack n, out)) (listedOutcome sheet, listing sheet ++ drop (length (listing sheet)) out) (sheetChecks sheet (length out)))
+run-right sheet out = go (first-or (λ n. (turnedBack n, out)) (listedBy answerTo sheet, listing sheet ++ drop (length (listing sheet)) out) (sheetChecks sheet (length out)))
   where
     by : (r : Outcome × List ℕ) → outcome sheet out ≡ r → Run answerTo sheet out (r .0) (r .1) → Run answerTo sheet out (outcome sheet out .0) (outcome sheet out .1)
     by r e d = subst (λ (q : Outcome × List ℕ). Run answerTo sheet out (q .0) (q .1)) (sym e) d
 
     go : ((n : ℕ) × (FirstBroken (sheetChecks sheet (length out)) n × (outcome sheet out ≡ (turnedBack n, out))))
-        ⊎ (AllPassed (sheetChecks sheet (length out)) × (outcome sheet out ≡ (listedOutcome sheet, listing sheet ++ drop (length (listing sheet)) out)))
+        ⊎ (AllPassed (sheetChecks sheet (length out)) × (outcome sheet out ≡ (listedBy answerTo sheet, listing sheet ++ drop (length (listing sheet)) out)))
         → Run answerTo sheet out (outcome sheet out .0) (outcome sheet out .1)
     go (inl (n, (f, e))) = by (turnedBack n, out) e (turned n f refl refl)
-    go (inr (all, e)) = by (listedOutcome sheet, listing sheet ++ drop (length (listing sheet)) out) e (listed all (sheet-listed sheet out (accepted sheet (length out) all)))
+    go (inr (all, e)) = by (listedBy answerTo sheet, listing sheet ++ drop (length (listing sheet)) out) e (listed all refl refl)
 
--- "Demand 3 is a single claim about the whole sheet, all its lines at once, and not one for each line"
-pub demand-3 : (sheet out : List ℕ) → Demand3 answerTo sheet out (outcome sheet out .0) (outcome sheet out .1)
-demand-3 sheet out =
+-- whatever run meets `Run` by the program's rule meets the demand
+pub demand-by : (sheet out out′ : List ℕ) (r : Outcome) → Run answerTo sheet out r out′ → Demand3 answerTo sheet out r out′
+demand-by sheet out out′ r run =
     record {
-      run = run-right sheet out;
-      right-at = λ k h. answer-right (lineAt sheet k);
-      holds-only = λ k h. line-holds answerTo (lineAt sheet k) (answer-right (lineAt sheet k));
-      fails-only = λ k h. line-fails answerTo (lineAt sheet k) (answer-right (lineAt sheet k));
-      open-only = λ k h. line-open answerTo (lineAt sheet k) (answer-right (lineAt sheet k));
-      same-answer = λ other k m e. ap answerTo e;
-      final-newline = final-listing answerTo sheet;
-      empty-sheet = empty-listing answerTo sheet;
+      run = run;
+      right = answer-right;
+      verdict-means = λ l j e. line-means l (answerTo l) (answer-right l) j e;
+      read-back = λ z.
+          let a = accepted sheet (length out) (run-listed answerTo sheet out r out′ run z .0) in
+          run-read-back answerTo sheet out r out′ run z (omega (arith, sheet-room sheet (a .few), a .enough));
+      same-answer = λ sheet₂ out₂ out₂′ r₂ run₂ z z₂ k m h h₂ e.
+          (
+            answerTo (lineAt sheet k),
+            (
+              run-lines answerTo sheet out r out′ run z .1 .0 k h,
+              run-lines answerTo sheet₂ out₂ r₂ out₂′ run₂ z₂ .1 .0 m h₂ ∙ ap (λ (l : List ℕ). entry (m + 1) (answerTo l)) (sym e),
+            ),
+          );
+      final-newline = λ lacks out₂ out₂′ r₂ run₂ z z₂.
+          (
+            run-listed answerTo (sheet ++ (10 ∷ [])) out₂ r₂ out₂′ run₂ z₂ .1 .0 ∙ final-listed answerTo sheet lacks ∙ sym (run-listed answerTo sheet out r out′ run z .1 .0),
+            run-written answerTo (sheet ++ (10 ∷ [])) out₂ r₂ out₂′ run₂ z₂ ∙ final-listing answerTo sheet lacks ∙ sym (run-written answerTo sheet out r out′ run z),
+          );
+      empty-sheet = λ e z. run-written answerTo sheet out r out′ run z ∙ empty-listing answerTo sheet e;
     }
 
--- for the code: whatever gives the outcome meets the demand
+pub demand-3 : (sheet out : List ℕ) → Demand3 answerTo sheet out (outcome sheet out .0) (outcome sheet out .1)
+demand-3 sheet out = demand-by sheet out _ _ (run-right sheet out)
+
+-- for the code
 pub demand-of : (sheet out out′ : List ℕ) (r : Outcome) → _≡_ {A = Outcome × List ℕ} (r, out′) (outcome sheet out) → Demand3 answerTo sheet out r out′
 demand-of sheet out out′ r e = subst (λ (q : Outcome × List ℕ). Demand3 answerTo sheet out (q .0) (q .1)) (sym e) (demand-3 sheet out)
 
@@ -148,7 +181,7 @@ module _ (sheet out : List ℕ) where
     where
       by : Run answerTo sheet out (outcome sheet out .0) (outcome sheet out .1) → outcome sheet out .0 .refusal ≡ n → FirstBroken (sheetChecks sheet (length out)) n
       by (turned m f r o) e = rw (sym e ∙ ap (λ (q : Outcome). q .refusal) r) f
-      by (listed all l) e = absurd (omega (arith, l .returned))
+      by (listed all l o) e = absurd (omega (arith, ap (λ (q : Outcome). q .refusal) l))
 
   -- 0 is returned exactly if none is broken
   pub returned-passed : (outcome sheet out .0 .refusal ≡ 0) ↔ AllPassed (sheetChecks sheet (length out))
@@ -156,8 +189,8 @@ module _ (sheet out : List ℕ) where
     where
       by : Run answerTo sheet out (outcome sheet out .0) (outcome sheet out .1) → outcome sheet out .0 .refusal ≡ 0 → AllPassed (sheetChecks sheet (length out))
       by (turned m f r o) e =
-          absurd (omega (arith, ap (λ (q : Outcome). q .refusal) r, among-every (λ i. 0 < i) (1 ∷ 2 ∷ 3 ∷ []) m (first-among (sheetChecks sheet (length out)) m f) (lit< tt, (lit< tt, (lit< tt, tt)))))
-      by (listed all l) e = all
+          absurd (omega (arith, ap (λ (q : Outcome). q .refusal) r, turned-positive sheet (length out) m f))
+      by (listed all l o) e = all
 
   -- "listing untouched": a sheet that is turned back leaves the buffer as it was
   pub untouched : (outcome sheet out .0 .refusal ≡ 0 → ⊥) → outcome sheet out .1 ≡ out
@@ -165,7 +198,7 @@ module _ (sheet out : List ℕ) where
     where
       by : Run answerTo sheet out (outcome sheet out .0) (outcome sheet out .1) → outcome sheet out .1 ≡ out
       by (turned m f r o) = o
-      by (listed all l) = absurd (e (l .returned))
+      by (listed all l o) = absurd (e (ap (λ (q : Outcome). q .refusal) l))
 
 -- a buffer of 24 × 1,024 + 40 bytes is long enough for every sheet
 pub room-enough : (sheet out : List ℕ) → 24616 ≤ length out → outcome sheet out .0 .refusal ≡ 3 → ⊥
@@ -183,4 +216,4 @@ length-fits rule sheet out out′ r d = by (d .run)
   where
     by : Run rule sheet out r out′ → r .length ≤ length out′
     by (turned n f t o) = rw t zero-le
-    by (listed all l) = l .fits
+    by (listed all t o) = d .read-back (ap (λ (q : Outcome). q .refusal) t) .fits

@@ -17,15 +17,14 @@ use Rattle.answer.specs.Checks.{AllPassed}
 use Rattle.answer.specs.Answering.{refusalBy}
 use Rattle.answer.proofs.Checks.{first-broken, all-passed, refusal-broken, refusal-none}
 use Rattle.reading.specs.Answering.{answerTo}
-use Rattle.reading.proofs.Answers.{answer-right}
+use Rattle.reading.proofs.Answers.{answer-right, line-refusal}
 use Rattle.listing.specs.declared.Counts.{Counts}
 use Rattle.listing.specs.Listing.{ended, total, counts, noCounts}
 use Rattle.listing.proofs.Totals.{listing-room}
 use Rattle.listing.proofs.Turns.{Here, here-counts, here-listing}
 use Rattle.outcome.specs.declared.Outcome.{Outcome}
-use Rattle.outcome.proofs.Verdicts.{line-refusal}
-use Rattle.outcome.specs.Sheet.{listingBy, sheetChecks, turnedBack}
-use Rattle.outcome.specs.Running.{answers, listing, listedOutcome, outcome}
+use Rattle.outcome.specs.Sheet.{listingBy, sheetChecks, turnedBack, listedBy}
+use Rattle.outcome.specs.Running.{answers, listing, outcome}
 
 -- ---- the loop over the lines
 
@@ -49,7 +48,7 @@ sheet-room sheet h = listing-room answerTo (λ l n e. omega (arith, line-refusal
 -- ---- the end of the loop
 
 pub listed : (sheet out out′ : List ℕ) (c : Counts) (r : ℕ) → c ≡ counts (answers sheet) → Wrote out 0 (listing sheet) r out′
-    → _≡_ {A = Outcome} (record { refusal = 0; counts = c; length = r }) (listedOutcome sheet)
+    → _≡_ {A = Outcome} (record { refusal = 0; counts = c; length = r }) (listedBy answerTo sheet)
 listed sheet out out′ c r e w =
     let len : r ≡ length (listing sheet) = w .0 ∙ zero-add (length (listing sheet)) in
     λ i. record { refusal = 0; counts = e i; length = len i }
@@ -85,9 +84,9 @@ module _ (sheet out : List ℕ) (n : ℕ) (e : n ≡ refusalBy (sheetChecks shee
     pub outcome-fits : length (listing sheet) ≤ length out
     outcome-fits = let a = outcome-accepted in omega (arith, sheet-room sheet (a .few), a .enough)
 
-    pub outcome-listed : (r : Outcome) (out′ : List ℕ) → r ≡ listedOutcome sheet → out′ ≡ put out 0 (listing sheet) → _≡_ {A = Outcome × List ℕ} (r, out′) (outcome sheet out)
+    pub outcome-listed : (r : Outcome) (out′ : List ℕ) → r ≡ listedBy answerTo sheet → out′ ≡ put out 0 (listing sheet) → _≡_ {A = Outcome × List ℕ} (r, out′) (outcome sheet out)
     unfolding outcome
     outcome-listed r out′ a w =
         ap (λ (q : Outcome). (q, out′)) a
-        ∙ ap (λ (l : List ℕ). (listedOutcome sheet, l)) (w ∙ put-all out (listing sheet) outcome-fits)
+        ∙ ap (λ (l : List ℕ). (listedBy answerTo sheet, l)) (w ∙ put-all out (listing sheet) outcome-fits)
         ∙ sym (all-passed (λ m. (turnedBack m, out)) _ (sheetChecks sheet (length out)) passed)

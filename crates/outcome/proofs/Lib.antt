@@ -1,3 +1,2 @@
-pub mod Verdicts
 pub mod Laws
 pub mod Demand3

@@ -5,9 +5,8 @@ use lib.ListN.{length, drop}
 use Rattle.answer.specs.declared.Answer.{Answer}
 use Rattle.answer.specs.Answering.{firstOr}
 use Rattle.reading.specs.Answering.{answerTo}
-use Rattle.listing.specs.Listing.{counts}
 use Rattle.outcome.specs.declared.Outcome.{Outcome}
-use Rattle.outcome.specs.Sheet.{answersBy, listingBy, sheetChecks, turnedBack}
+use Rattle.outcome.specs.Sheet.{answersBy, listingBy, sheetChecks, turnedBack, listedBy}
 
 abbrev pub answers : List ℕ → List Answer
 answers sheet = answersBy answerTo sheet
@@ -15,11 +14,7 @@ answers sheet = answersBy answerTo sheet
 abbrev pub listing : List ℕ → List ℕ
 listing sheet = listingBy answerTo sheet
 
--- what is returned of a sheet that is listed
-abbrev pub listedOutcome : List ℕ → Outcome
-listedOutcome sheet = record { refusal = 0; counts = counts (answers sheet); length = length (listing sheet) }
-
 -- what a run returns, and what it leaves in the listing buffer
 unfoldable pub outcome : List ℕ → List ℕ → Outcome × List ℕ
 outcome sheet out =
-    firstOr (λ n. (turnedBack n, out)) (listedOutcome sheet, listing sheet ++ drop (length (listing sheet)) out) (sheetChecks sheet (length out))
+    firstOr (λ n. (turnedBack n, out)) (listedBy answerTo sheet, listing sheet ++ drop (length (listing sheet)) out) (sheetChecks sheet (length out))

@@ -7,7 +7,7 @@ use lib.Dec.{leb}
 use Rattle.text.specs.Bytes.{lines}
 use Rattle.answer.specs.declared.Answer.{Answer}
 use Rattle.answer.specs.Checks.{Check, check}
-use Rattle.listing.specs.Listing.{noCounts, listingOf}
+use Rattle.listing.specs.Listing.{counts, noCounts, listingOf}
 use Rattle.outcome.specs.declared.Outcome.{Outcome}
 
 -- line k of a sheet, counted from 0
@@ -18,16 +18,33 @@ lineAt sheet k = getD (lines sheet) k []
 abbrev pub answersBy : (List ℕ → Answer) → List ℕ → List Answer
 answersBy rule sheet = map rule (lines sheet)
 
--- "What is listed then follows from the sheet's bytes alone"
+-- the listing of these answers
 unfoldable pub listingBy : (List ℕ → Answer) → List ℕ → List ℕ
 listingBy rule sheet = listingOf (answersBy rule sheet)
 
--- 1 for a sheet over 65,535 bytes, 2 over 1,024 lines, 3 for a listing buffer under 24 × lines + 40 bytes: "A sheet is accepted exactly when none of
--- 1, 2 and 3 applies"; "The lowest number that applies is given"
-abbrev pub sheetChecks : List ℕ → ℕ → List Check
-sheetChecks sheet room =
-    check 1 (leb (length sheet) 65535) ∷ check 2 (leb (length (lines sheet)) 1024) ∷ check 3 (leb (24 * length (lines sheet) + 40) room) ∷ []
+-- ---- the checks of a sheet
 
--- "with 1, 2 or 3 the counts and the length are 0"
+-- 1: over 65,535 bytes
+abbrev pub sizeCheck : List ℕ → Check
+sizeCheck sheet = check 1 (leb (length sheet) 65535)
+
+-- 2: over 1,024 lines
+abbrev pub linesCheck : List ℕ → Check
+linesCheck sheet = check 2 (leb (length (lines sheet)) 1024)
+
+-- 3: a listing buffer under 24 × lines + 40 bytes
+abbrev pub roomCheck : List ℕ → ℕ → Check
+roomCheck sheet room = check 3 (leb (24 * length (lines sheet) + 40) room)
+
+abbrev pub sheetChecks : List ℕ → ℕ → List Check
+sheetChecks sheet room = sizeCheck sheet ∷ linesCheck sheet ∷ roomCheck sheet room ∷ []
+
+-- ---- what is returned
+
+-- of a sheet that is turned back by n
 abbrev pub turnedBack : ℕ → Outcome
 turnedBack n = record { refusal = n; counts = noCounts; length = 0 }
+
+-- of a sheet that is listed: 0, the five counts and the listing's length
+abbrev pub listedBy : (List ℕ → Answer) → List ℕ → Outcome
+listedBy rule sheet = record { refusal = 0; counts = counts (answersBy rule sheet); length = length (listingBy rule sheet) }

@@ -12,18 +12,19 @@ use borrow.Author.Tests.{lt-ltb, le-ltb, ltb-true, ltb-false}
 use Rattle.algebra.specs.Choice.{pick}
 use Rattle.format.proofs.Formats.{Whole, spelt, unspelt}
 use Rattle.answer.specs.declared.Answer.{Answer}
-use Rattle.answer.specs.declared.Answer.the-variants.{Refused}
+use Rattle.answer.specs.declared.Answer.the-variants.{Refused, Judged}
+use Rattle.answer.specs.declared.Judgement.{Judgement}
 use Rattle.answer.proofs.Checks.{among-every}
 use Rattle.record.specs.declared.Record.{Record}
 use Rattle.record.specs.Right.{Right}
 use Rattle.record.specs.Answering.{recordAnswer}
-use Rattle.record.proofs.Right.{record-right, meets}
+use Rattle.record.proofs.Right.{record-right, meets, refusal-ten, verdict-means}
 use Rattle.reading.specs.declared.Form.{Form}
 use Rattle.reading.specs.declared.Form.the-variants as Form
 use Rattle.reading.specs.Text.{Spells}
 use Rattle.reading.specs.Reading.{formOf}
 use Rattle.reading.specs.Answering.{answerForm, answerTo}
-use Rattle.reading.specs.Answers.{RightLine, too-long, not-form, of-record}
+use Rattle.reading.specs.Answers.{RightLine, too-long, not-form, of-record, MeansLine}
 use Rattle.reading.proofs.Inverse.{form-right, refused-five, other-text, blank-spells}
 
 -- ---- for the code
@@ -83,3 +84,17 @@ answer-five l = (λ e. right-five l (answerTo l) (answer-right l) e, λ h. sym (
 -- "A blank line is a line, refused by 5"
 pub blank-five : answerTo [] ≡ Refused 5
 blank-five = answer-five [] .1 (lit≤ tt, λ c is. blank-spells c is)
+
+-- ---- a line with a verdict spells a record, of whose exact sum the verdict says so
+
+pub line-means : (l : List ℕ) (a : Answer) → RightLine l a → (j : Judgement) → a ≡ Judged j → MeansLine l (j .verdict)
+line-means l _ (too-long h) j e = absurd (let z : _≡_ {A = ℕ} 0 1 = cc in omega arith)
+line-means l _ (not-form h none) j e = absurd (let z : _≡_ {A = ℕ} 0 1 = cc in omega arith)
+line-means l _ (of-record c a h is right) j e = (c, (is, verdict-means c j (subst (Right c) e right)))
+
+-- ---- the number of a refusal is at most 10
+
+pub line-refusal : (l : List ℕ) (a : Answer) → RightLine l a → (n : ℕ) → a ≡ Refused n → n ≤ 10
+line-refusal l _ (too-long h) n e = let z : _≡_ {A = ℕ} 4 n = cc in omega arith
+line-refusal l _ (not-form h none) n e = let z : _≡_ {A = ℕ} 5 n = cc in omega arith
+line-refusal l _ (of-record c a h is right) n e = refusal-ten c n (subst (Right c) e right)

@@ -9,6 +9,7 @@ use Rattle.answer.specs.declared.Answer.the-variants as Answer
 use Rattle.record.specs.Answering.{recordAnswer}
 use Rattle.reading.specs.declared.Form.{Form}
 use Rattle.reading.specs.declared.Form.the-variants as Form
+use Rattle.reading.specs.Answers.{lineMost}
 use Rattle.reading.specs.Reading.{formOf}
 
 abbrev pub answerForm : Form → Answer
@@ -16,4 +17,4 @@ answerForm (Form.Refused n) = Answer.Refused n
 answerForm (Form.Read c) = recordAnswer c
 
 unfoldable pub answerTo : List ℕ → Answer
-answerTo l = pick (ltb 128 (length l)) (Answer.Refused 4) (answerForm (formOf l))
+answerTo l = pick (ltb lineMost (length l)) (Answer.Refused 4) (answerForm (formOf l))

@@ -4,7 +4,9 @@ use mathlib.Core.Path.{_≡_, refl, sym, ap, _∙_}
 use mathlib.Core.List.{[], _∷_}
 use Prim.Native.Nat.{ℕ, _+_, _≤_, _<_}
 use native.Mathlib.Omega.{arith}
-use lib.Dec.{lit≤}
+use mathlib.Core.Bool.{Bool, true, false}
+use lib.Dec.{ltb, lit≤}
+use borrow.Author.Tests.{ltb-true, ltb-false}
 use Rattle.cylinder.specs.Fraction.{whole}
 use Rattle.cylinder.specs.Exact.{AtMost, AtLeast, Encloses, Close}
 use Rattle.cylinder.specs.Search.{sumBounds}
@@ -19,16 +21,16 @@ use Rattle.answer.specs.Answers.{verdictOf}
 use Rattle.answer.specs.Answering.{Bounded}
 use Rattle.answer.specs.Checks.{AllPassed}
 use Rattle.answer.specs.Right.{RightBy, refused, judged}
-use Rattle.answer.proofs.Checks.{Among, among-every}
+use Rattle.answer.proofs.Checks.{Among, among-every, broken-passed}
 use Rattle.answer.proofs.Right
-use Rattle.answer.proofs.Verdicts.{verdict-holds, verdict-fails, verdict-open}
+use Rattle.answer.proofs.Verdicts.{verdict-holds, verdict-fails, verdict-open, holds-verdict, fails-verdict}
 use Rattle.record.specs.declared.Record.{Record}
 use Rattle.record.specs.Limits.{checks, shellOf}
-use Rattle.record.specs.Right.{RecordOver, Bounds, Right}
-use Rattle.record.specs.Answering.{boundsOf, recordAnswer}
+use Rattle.record.specs.Right.{RecordOver, Bounds, Right, Means}
+use Rattle.record.specs.Answering.{boundsOf, judgementOfRecord, recordAnswer}
 use Rattle.record.proofs.Checks.{shell-within}
 
-pub bounds-right : (c : Record) → AllPassed (checks c) → Bounds c (boundsOf c .low) (boundsOf c .high)
+pub bounds-right : (c : Record) → AllPassed (checks c) → Bounds c (judgementOfRecord c)
 unfolding boundsOf
 bounds-right c all =
     let b = sum-bounds-within 0 (lit≤ tt) (shellOf (c .wall)) (shell-within c all) (whole (c .group .axial)) (whole (c .group .ring)) (whole (c .group .shear)) in
@@ -36,7 +38,7 @@ bounds-right c all =
 
 pub record-right : (c : Record) → Right c (recordAnswer c)
 unfolding recordAnswer
-record-right c = Right.answer-by-right (checks c) (Bounds c) (boundsOf c .low) (boundsOf c .high) (bounds-right c)
+record-right c = Right.answer-by-right (checks c) (Bounds c) (judgementOfRecord c) refl (bounds-right c)
 
 module _ (c : Record) where
   -- a record that is passed as numbers meets 6 to 10 only
@@ -48,7 +50,7 @@ module _ (c : Record) where
 
   -- L and U fit the number of an answer
   pub right-bounded : (a : Answer) → Right c a → Bounded a
-  right-bounded a r = Right.right-bounded (checks c) (Bounds c) (λ L U b. (b .encloses .L-most, b .encloses .U-most)) a r
+  right-bounded a r = Right.right-bounded (checks c) (Bounds c) (λ j b. (b .encloses .L-most, b .encloses .U-most)) a r
 
 -- ---- what a verdict says of the exact sum
 
@@ -73,3 +75,43 @@ module _ (c : Record) (j : Judgement) where
   open-band (judged _ all b v) h =
       let (over, under) = verdict-open (j .low) (j .high) (sym v ∙ h) in
       Verdict.open-band (b .encloses) (Verdict.sum-over-down _ _ _) (omega (arith, b .close)) over under
+
+  pub verdict-means : Right c (Judged j) → Means (RecordOver c) (j .verdict)
+  verdict-means r = go (j .verdict) refl
+    where
+      go : (v : Verdict) → j .verdict ≡ v → Means (RecordOver c) v
+      go Holds e = holds-at-most r e
+      go Fails e = fails-over r e
+      go Open e = open-band r e
+
+-- ---- L and U of two right answers overlap, so a verdict is the only one where the sum is far enough from 1
+
+module _ (c : Record) (i j : Judgement) (I : Bounds c i) (J : Bounds c j) where
+  pub overlap : i .low ≤ j .high
+  overlap = go (ltb (j .high) (i .low)) refl
+    where
+      go : (b : Bool) → ltb (j .high) (i .low) ≡ b → i .low ≤ j .high
+      go false e = ltb-false (j .high) (i .low) e
+      go true e =
+          let lt = ltb-true (j .high) (i .low) e in
+          absurd (J .encloses .at-most (omega (arith, I .encloses .L-most)) (I .encloses .at-least (j .high) 10000 (omega (arith, lt))))
+
+-- where the program's U is at most 9,998, every right answer holds; where its L is at least 10,003, every one fails
+module _ (c : Record) (all : AllPassed (checks c)) (a : Answer) (r : Right c a) where
+  pub only-holds : boundsOf c .high ≤ 9998 → (j : Judgement) × ((a ≡ Judged j) × (j .verdict ≡ Holds))
+  only-holds h = go a r
+    where
+      go : (x : Answer) → Right c x → (j : Judgement) × ((x ≡ Judged j) × (j .verdict ≡ Holds))
+      go _ (refused n f) = absurd (broken-passed (checks c) n f all)
+      go _ (judged j p b v) =
+          let o = overlap c j (judgementOfRecord c) b (bounds-right c all) in
+          (j, (refl, v ∙ holds-verdict (j .low) (j .high) (omega (arith, b .close, o))))
+
+  pub only-fails : 10003 ≤ boundsOf c .low → (j : Judgement) × ((a ≡ Judged j) × (j .verdict ≡ Fails))
+  only-fails h = go a r
+    where
+      go : (x : Answer) → Right c x → (j : Judgement) × ((x ≡ Judged j) × (j .verdict ≡ Fails))
+      go _ (refused n f) = absurd (broken-passed (checks c) n f all)
+      go _ (judged j p b v) =
+          let o = overlap c (judgementOfRecord c) j (bounds-right c all) b in
+          (j, (refl, v ∙ fails-verdict (j .low) (j .high) (omega (arith, b .close, o)) (omega (arith, o, h))))

@@ -1,8 +1,11 @@
 -- What document 01 says of the answer to a record.
 use Prim.Native.Nat.{ℕ}
 use Rattle.cylinder.specs.Fraction.{whole}
-use Rattle.cylinder.specs.Exact.{Encloses, Close}
+use Rattle.cylinder.specs.Exact.{AtMost, AtLeast, Encloses, Close}
 use Rattle.cylinder.specs.Sum.{Over}
+use Rattle.answer.specs.declared.Verdict.{Verdict}
+use Rattle.answer.specs.declared.Verdict.the-variants.{Holds, Fails, Open}
+use Rattle.answer.specs.declared.Judgement.{Judgement}
 use Rattle.answer.specs.declared.Answer.{Answer}
 use Rattle.answer.specs.Right.{RightBy}
 use Rattle.record.specs.declared.Record.{Record}
@@ -13,10 +16,16 @@ abbrev pub RecordOver : Record → ℕ → ℕ → Type 0
 RecordOver c = Over (shellOf (c .wall)) (whole (c .group .axial)) (whole (c .group .ring)) (whole (c .group .shear))
 
 -- L and U enclose the exact sum, and are close
-pub record Bounds (c : Record) (L U : ℕ) : Type 0 where
-  pub encloses : Encloses (RecordOver c) L U
-  pub close : Close L U
+pub record Bounds (c : Record) (j : Judgement) : Type 0 where
+  pub encloses : Encloses (RecordOver c) (j .low) (j .high)
+  pub close : Close (j .low) (j .high)
 
--- the answer is refused by the first check broken, or judged, with L and U that are right and the verdict by the rule
+-- refused by the first check broken, or judged, with L and U that are right and the verdict of L and U
 abbrev pub Right : Record → Answer → Type 0
 Right c = RightBy (checks c) (Bounds c)
+
+-- what a verdict says of an exact sum: holds, that it is at most 1; fails, that it is over 1; open, that it lies from 0.99 to 1.01
+abbrev pub Means : (ℕ → ℕ → Type 0) → Verdict → Type 0
+Means Exceeds Holds = AtMost Exceeds 1 1
+Means Exceeds Fails = Exceeds 1 1
+Means Exceeds Open = AtLeast Exceeds 99 100 × AtMost Exceeds 101 100

@@ -1,35 +1,37 @@
--- The rows marked P in document 01, "Trial shells", together.
+-- The rows marked P in document 01, "Trial shells", together: for each, what the exact sum is, and that every right answer has the verdict.
 use Prim.Native.Nat.{ℕ}
-use Rattle.cylinder.specs.Exact.{AtMost}
+use mathlib.Core.Path.{_≡_}
+use Rattle.answer.specs.declared.Verdict.{Verdict}
+use Rattle.answer.specs.declared.Verdict.the-variants.{Holds, Fails}
+use Rattle.answer.specs.declared.Judgement.{Judgement}
+use Rattle.answer.specs.declared.Answer.{Answer}
+use Rattle.answer.specs.declared.Answer.the-variants.{Judged}
 use Rattle.record.specs.declared.Record.{Record}
 use Rattle.record.specs.Limits.{recordOf}
-use Rattle.record.specs.Right.{RecordOver}
+use Rattle.record.specs.Right.{RecordOver, Right, Means}
 
 -- B is 5000 500 10000 210000 240 12 1000
 abbrev pub B : ℕ → ℕ → ℕ → Record
 B σx σφ τ = recordOf 5000 500 10000 210000 240 12 1000 σx σφ τ
 
 -- B with a = 2000
-abbrev pub dentedB : ℕ → ℕ → ℕ → Record
-dentedB σx σφ τ = recordOf 5000 500 10000 210000 240 12 2000 σx σφ τ
+abbrev pub B2000 : ℕ → ℕ → ℕ → Record
+B2000 σx σφ τ = recordOf 5000 500 10000 210000 240 12 2000 σx σφ τ
 
--- the exact sum is at most 1, and over 1
-abbrev pub UpTo1 : Record → Type 0
-UpTo1 c = AtMost (RecordOver c) 1 1
-
-abbrev pub Over1 : Record → Type 0
-Over1 c = RecordOver c 1 1
+pub record Row (c : Record) (v : Verdict) : Type 0 where
+  pub meant : Means (RecordOver c) v
+  pub answered : (a : Answer) → Right c a → (j : Judgement) × ((a ≡ Judged j) × (j .verdict ≡ v))
 
 pub record TrialRows : Type 0 where
-  pub axial-holds : UpTo1 (B 20700 0 0)
-  pub axial-fails : Over1 (B 21200 0 0)
-  pub ring-holds : UpTo1 (B 0 2200 0)
-  pub ring-fails : Over1 (B 0 2300 0)
-  pub shear-holds : UpTo1 (B 0 0 11500)
-  pub shear-fails : Over1 (B 0 0 11900)
-  pub together-holds : UpTo1 (B 10000 1000 5000)
-  pub together-fails : Over1 (B 10000 1000 6500)
-  pub dented-holds : UpTo1 (dentedB 11100 0 0)
-  pub dented-fails : Over1 (dentedB 11600 0 0)
-  pub unloaded-holds : UpTo1 (B 0 0 0)
-  pub most-shear-fails : Over1 (B 0 0 700000)
+  pub axial-holds : Row (B 20700 0 0) Holds
+  pub axial-fails : Row (B 21200 0 0) Fails
+  pub ring-holds : Row (B 0 2200 0) Holds
+  pub ring-fails : Row (B 0 2300 0) Fails
+  pub shear-holds : Row (B 0 0 11500) Holds
+  pub shear-fails : Row (B 0 0 11900) Fails
+  pub together-holds : Row (B 10000 1000 5000) Holds
+  pub together-fails : Row (B 10000 1000 6500) Fails
+  pub excess-holds : Row (B2000 11100 0 0) Holds
+  pub excess-fails : Row (B2000 11600 0 0) Fails
+  pub unloaded-holds : Row (B 0 0 0) Holds
+  pub most-shear-fails : Row (B 0 0 700000) Fails

@@ -10,7 +10,7 @@ use answer::Judgement;
 use bounds::Load;
 use cylinder::Shell;
 
-// A shell's wall and edges, each field any u64.
+// A shell without its load: its wall, material and edges. Each field is any u64.
 pub struct Wall {
     // r, radius of the middle surface, mm
     pub radius: u64,
@@ -62,12 +62,12 @@ fn load(stress: u64) -> Load
 }
 
 impl Wall {
-    // Whether radius, wall and length lie in their ranges.
+    // Whether radius, thickness and length lie in their ranges.
     fn has_dimensions(self) -> bool
         ensures { λ r. ⌜ r ≡ dimensions self ⌝ }
     {
         if in_range(self.radius, Record::RADIUS_LEAST, Record::RADIUS_MOST) {
-            if in_range(self.thickness, Record::WALL_LEAST, Record::WALL_MOST) {
+            if in_range(self.thickness, Record::THICKNESS_LEAST, Record::THICKNESS_MOST) {
                 in_range(self.length, Record::LENGTH_LEAST, Record::LENGTH_MOST)
             } else {
                 false
@@ -164,9 +164,9 @@ impl Record {
 
     pub const RADIUS_MOST: u64 = 50000;
 
-    pub const WALL_LEAST: u64 = 100;
+    pub const THICKNESS_LEAST: u64 = 100;
 
-    pub const WALL_MOST: u64 = 10000;
+    pub const THICKNESS_MOST: u64 = 10000;
 
     pub const LENGTH_LEAST: u64 = 10;
 

@@ -16,16 +16,19 @@ ghost use Prim.Native.Nat.{ℕ, _≤_};
 ghost use lib.ListN.{length};
 ghost use Rattle.text.specs.Slices.{put};
 ghost use Rattle.reading.specs.Answering.{answerTo};
-ghost use Rattle.outcome.specs.Sheet.{turnedBack};
+ghost use Rattle.outcome.specs.Sheet.{turnedBack, listedBy};
 ghost use Rattle.outcome.specs.Demand3.{Demand3};
-ghost use Rattle.outcome.specs.Running.{listing, listedOutcome, outcome};
+ghost use Rattle.outcome.specs.Running.{listing, outcome};
 ghost use Rattle.outcome.specs.declared.Outcome.{Outcome};
 
-// The answer to a line: refused by 4 if it is over 128 bytes, by 5 if it is not the form, else the answer to its record.
+// A line of more bytes is refused by 4.
+const LINE_MOST: usize = 128;
+
+// The answer to a line: refused by 4 if it is too long, by 5 if it is not the form, else the answer to its record.
 fn answer(line: &[u8]) -> Answer
     ensures { λ r. ⌜ r ≡ answerTo (now (line .entry)) ⌝ }
 {
-    if 128 < line.len() {
+    if LINE_MOST < line.len() {
         return Answer::Refused(4);
     }
     let Form::Read(c) = read(line) else {
@@ -61,7 +64,7 @@ fn turned_back(n: u64) -> Outcome
 // Writes the listing of a sheet to the start of `out`.
 fn put_listing(sheet: &[u8], out: &mut [u8]) -> Outcome
     requires { ⌜ (length (now sheet) ≤ 65535) × (length (listing (now sheet)) ≤ length (now out)) ⌝ }
-    ensures { λ r. ⌜ r ≡ listedOutcome (now (sheet .entry)) ⌝ }
+    ensures { λ r. ⌜ r ≡ listedBy answerTo (now (sheet .entry)) ⌝ }
     ensures { λ _. ⌜ now (out .exit) ≡ put (now (out .entry)) 0 (listing (now (sheet .entry))) ⌝ }
 {
     let mut rest = sheet;
