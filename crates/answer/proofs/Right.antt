@@ -35,11 +35,6 @@ module _ (ks : List Check) (Claim : Judgement → Type 0) where
   pub refused-among : (n : ℕ) → RightBy ks Claim (Refused n) → Among n (numbers ks)
   refused-among n (refused _ f) = first-among ks n f
 
-  -- where no check is broken the answer is a judgement
-  pub passed-judged : AllPassed ks → (a : Answer) → RightBy ks Claim a → (j : Judgement) × (a ≡ Judged j)
-  passed-judged all _ (refused n f) = absurd (broken-passed ks n f all)
-  passed-judged all _ (judged j p c v) = (j, refl)
-
   -- L and U fit the number of an answer, if the claim limits them
   pub right-bounded : ((j : Judgement) → Claim j → (j .low ≤ 20000) × (j .high ≤ 20000)) → (a : Answer) → RightBy ks Claim a → Bounded a
   right-bounded limit _ (refused n f) = tt

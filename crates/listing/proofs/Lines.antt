@@ -129,13 +129,3 @@ entries-at k [] i l a h = absurd (omega arith)
 entries-at k (x ∷ xs) zero l a h = ap (λ (n : ℕ). entry n x) (omega arith)
 entries-at k (x ∷ xs) (suc i) l a h =
     entries-at (k + 1) xs i l a (omega arith) ∙ ap (λ (n : ℕ). entry n (getD xs i a)) (omega arith)
-
-joined-last : (ls : List (List ℕ)) (l : List ℕ) → joined ls ++ ended l ≡ joined (ls ++ (l ∷ []))
-unfolding joined
-joined-last [] l = sym (append-nil (ended l))
-joined-last (m ∷ ls) l = append-assoc (ended m) (joined ls) (ended l) ∙ ap (λ (s : List ℕ). ended m ++ s) (joined-last ls l)
-
--- a listing is its lines, each with its newline
-pub listing-joined : (xs : List Answer) → listingOf xs ≡ joined (lines (listingOf xs))
-unfolding listingOf
-listing-joined xs = joined-last (entries 1 xs) (total (counts xs)) ∙ ap joined (sym (listing-lines xs))

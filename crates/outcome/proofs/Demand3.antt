@@ -149,19 +149,17 @@ demand-by sheet out out′ r run =
       read-back = λ z.
           let a = accepted sheet (length out) (run-listed answerTo sheet out r out′ run z .0) in
           run-read-back answerTo sheet out r out′ run z (omega (arith, sheet-room sheet (a .few), a .enough));
-      same-answer = λ sheet₂ out₂ out₂′ r₂ run₂ z z₂ k m h h₂ e.
-          (
-            answerTo (lineAt sheet k),
-            (
-              run-lines answerTo sheet out r out′ run z .1 .0 k h,
-              run-lines answerTo sheet₂ out₂ r₂ out₂′ run₂ z₂ .1 .0 m h₂ ∙ ap (λ (l : List ℕ). entry (m + 1) (answerTo l)) (sym e),
-            ),
-          );
-      final-newline = λ lacks out₂ out₂′ r₂ run₂ z z₂.
-          (
-            run-listed answerTo (sheet ++ (10 ∷ [])) out₂ r₂ out₂′ run₂ z₂ .1 .0 ∙ final-listed answerTo sheet lacks ∙ sym (run-listed answerTo sheet out r out′ run z .1 .0),
-            run-written answerTo (sheet ++ (10 ∷ [])) out₂ r₂ out₂′ run₂ z₂ ∙ final-listing answerTo sheet lacks ∙ sym (run-written answerTo sheet out r out′ run z),
-          );
+      same-answer = λ sheet₂ out₂ out₂′ r₂ run₂ z z₂ k m h h₂ e. (
+        answerTo (lineAt sheet k),
+        (
+          run-lines answerTo sheet out r out′ run z .1 .0 k h,
+          run-lines answerTo sheet₂ out₂ r₂ out₂′ run₂ z₂ .1 .0 m h₂ ∙ ap (λ (l : List ℕ). entry (m + 1) (answerTo l)) (sym e),
+        ),
+      );
+      final-newline = λ lacks out₂ out₂′ r₂ run₂ z z₂. (
+        run-listed answerTo (sheet ++ (10 ∷ [])) out₂ r₂ out₂′ run₂ z₂ .1 .0 ∙ final-listed answerTo sheet lacks ∙ sym (run-listed answerTo sheet out r out′ run z .1 .0),
+        run-written answerTo (sheet ++ (10 ∷ [])) out₂ r₂ out₂′ run₂ z₂ ∙ final-listing answerTo sheet lacks ∙ sym (run-written answerTo sheet out r out′ run z),
+      );
       empty-sheet = λ e z. run-written answerTo sheet out r out′ run z ∙ empty-listing answerTo sheet e;
     }
 

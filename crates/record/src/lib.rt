@@ -67,7 +67,11 @@ impl Wall {
         ensures { λ r. ⌜ r ≡ dimensions self ⌝ }
     {
         if in_range(self.radius, Record::RADIUS_LEAST, Record::RADIUS_MOST) {
-            if in_range(self.thickness, Record::THICKNESS_LEAST, Record::THICKNESS_MOST) {
+            if in_range(
+                self.thickness,
+                Record::THICKNESS_LEAST,
+                Record::THICKNESS_MOST,
+            ) {
                 in_range(self.length, Record::LENGTH_LEAST, Record::LENGTH_MOST)
             } else {
                 false
