@@ -9,7 +9,7 @@ VERSION = 0.1
 prefix = $(abspath $(PREFIX))
 to = $(DESTDIR)$(prefix)
 program = target/bin/shellsheet
-archive = target/staticlib/libshell.a
+archive = target/staticlib/libcapi.a
 sources = crates.txt $(shell find crates -name '*.rt' -o -name '*.antt')
 
 all: program $(archive)
@@ -21,7 +21,7 @@ program:
 
 # not so for an archive, which it proves and writes each time
 $(archive): $(sources) | program
-	rt staticlib shell >target/staticlib.log 2>&1 || { rm -f $@; tail -n 40 target/staticlib.log; exit 1; }
+	rt staticlib capi >target/staticlib.log 2>&1 || { rm -f $@; tail -n 40 target/staticlib.log; exit 1; }
 	@touch $@
 
 install: all

@@ -6,7 +6,7 @@ use native.Mathlib.Decide.{decLt}
 use native.Mathlib.Omega.{arith}
 use lib.Dec.{leb, lit≤, lit<}
 use Rattle.algebra.specs.Bisection.{Edge}
-use Rattle.cylinder.specs.declared.Shell.{Shell}
+use Rattle.cylinder.specs.declared.Cylinder.{Cylinder}
 use Rattle.cylinder.specs.InLimits.{InLimits}
 use Rattle.algebra.specs.Choice.{pick}
 use Rattle.cylinder.specs.Cut.{Cut}
@@ -19,22 +19,22 @@ use Rattle.cylinder.proofs.Search.{part, placed, place-is}
 use Rattle.cylinder.specs.declared.Stress.{Stress}
 use Rattle.cylinder.specs.declared.Stress.the-variants.{Axial, Ring, Shear}
 use Rattle.ideal.specs.Decision.{cutOf}
-use Rattle.reach.specs.Highest.{Highest}
+use Rattle.slenderness_grid.specs.Highest.{Highest}
 use Rattle.lengths.specs.Short.{shortOf}
 
 -- ---- each slenderness is a number below 536
 
-lawful-true : (k : Stress) (s : Shell) → InLimits s → Lawful (cutOf k (shortOf k s) s)
+lawful-true : (k : Stress) (s : Cylinder) → InLimits s → Lawful (cutOf k (shortOf k s) s)
 lawful-true Axial s ok = axial-lawful s (sound s ok)
 lawful-true Ring s ok = ring-lawful s (sound s ok)
 lawful-true Shear s ok = shear-lawful s (sound s ok)
 
-far-true : (k : Stress) (s : Shell) → InLimits s → cutOf k (shortOf k s) s .reaches 536 1 ≡ false
+far-true : (k : Stress) (s : Cylinder) → InLimits s → cutOf k (shortOf k s) s .reaches 536 1 ≡ false
 far-true Axial s ok = axial-far s (sound s ok)
 far-true Ring s ok = ring-far s (sound s ok)
 far-true Shear s ok = shear-far s (sound s ok)
 
-module _ (k : Stress) (b : Bool) (s : Shell) (ok : InLimits s) (short : b ≡ shortOf k s) where
+module _ (k : Stress) (b : Bool) (s : Cylinder) (ok : InLimits s) (short : b ≡ shortOf k s) where
   pub lawful : Lawful (cutOf k b s)
   lawful = subst (λ (x : Bool). Lawful (cutOf k x s)) (sym short) (lawful-true k s ok)
 

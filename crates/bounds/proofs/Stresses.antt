@@ -6,7 +6,7 @@ use Prim.Native.Nat.{ℕ, zero, suc, _+_, _≤_}
 use native.Mathlib.Omega.{arith}
 use lib.Dec.{leb}
 use borrow.Author.Tests.{leb-true}
-use Rattle.cylinder.specs.declared.Shell.{Shell}
+use Rattle.cylinder.specs.declared.Cylinder.{Cylinder}
 use Rattle.cylinder.specs.declared.Stress.{Stress}
 use Rattle.cylinder.specs.declared.Stress.the-variants.{Axial, Ring, Shear}
 use Rattle.cylinder.specs.Fraction.{Fraction, _//_}
@@ -27,7 +27,7 @@ use Rattle.cylinder.specs.WholeCurves.{part1, part2}
 use Rattle.bounds.specs.Stresses.{slendernessOf, part1Of, part2Of, termFor, lowOf, Reads}
 
 -- the branch by length is that of the slenderness
-pub cut-is : (kind : Stress) (short : Bool) (s : Shell) → short ≡ shortOf kind s → cutOf kind short s ≡ slendernessOf kind s
+pub cut-is : (kind : Stress) (short : Bool) (s : Cylinder) → short ≡ shortOf kind s → cutOf kind short s ≡ slendernessOf kind s
 cut-is Axial short s e = rw e
 cut-is Ring short s e = rw e
 cut-is Shear short s e = rw e
@@ -40,7 +40,7 @@ part2-is : {c : Cut} (l : Limits) → Sides c l → part2Of l ≡ part2 c
 part2-is l a = rw (a .within-quarter, a .within-one, a .within-three-halves)
 
 -- the term in the branches that were read is the shell's
-pub term-is : (kind : Stress) (s : Shell) (num den : ℕ) (l : Limits) (b : Branches) → Sides (slendernessOf kind s) l → Reads kind l b →
+pub term-is : (kind : Stress) (s : Cylinder) (num den : ℕ) (l : Limits) (b : Branches) → Sides (slendernessOf kind s) l → Reads kind l b →
     termOf kind b (s .«yield_stress») num den (excess s) ≡ termFor kind s (num // den)
 term-is Axial s num den l b a r =
     terms.axial-is s (num // den) b
@@ -57,13 +57,13 @@ term-is Shear s num den l b a r =
     terms.shear-is s (num // den) b
     (record { part = r .part ∙ part1-is l a; long = r .long ∙ a .reaches-three-halves })
 
-rise-some : (kind : Stress) (s : Shell) (σ : Fraction) → termFor kind s σ .rise ≢ 0
+rise-some : (kind : Stress) (s : Cylinder) (σ : Fraction) → termFor kind s σ .rise ≢ 0
 rise-some Axial s σ e = omega arith
 rise-some Ring s σ e = omega arith
 rise-some Shear s σ e = omega arith
 
 -- a term is capped
-pub low-most : (kind : Stress) (s : Shell) (num den : ℕ) → lowOf kind s num den ≤ 2000000
+pub low-most : (kind : Stress) (s : Cylinder) (num den : ℕ) → lowOf kind s num den ≤ 2000000
 low-most kind s num den = leb-true b 2000000 (and-true (leb b 2000000) (formula t k q b 1000000) (most-edge t k q (rise-some kind s (num // den)) .passes) .0)
   where
     t : Term

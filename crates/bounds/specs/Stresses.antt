@@ -2,7 +2,7 @@
 -- Nobody has to believe this: cylinder's proofs/SumBounds.antt has that the bounds are right.
 use mathlib.Core.Path.{_≡_}
 use Prim.Native.Nat.{ℕ}
-use Rattle.cylinder.specs.declared.Shell.{Shell}
+use Rattle.cylinder.specs.declared.Cylinder.{Cylinder}
 use Rattle.cylinder.specs.declared.Stress.{Stress}
 use Rattle.cylinder.specs.declared.Stress.the-variants.{Axial, Ring, Shear}
 use Rattle.cylinder.specs.Fraction.{Fraction, _//_}
@@ -43,19 +43,19 @@ Small l = SmallParts (l .num) (l .den)
 abbrev pub fractionOf : Load → Fraction
 fractionOf l = l .num // l .den
 
-abbrev pub slendernessOf : Stress → Shell → Cut
+abbrev pub slendernessOf : Stress → Cylinder → Cut
 slendernessOf Axial s = axialCut s
 slendernessOf Ring s = ringCut s
 slendernessOf Shear s = shearCut s
 
-abbrev pub termFor : Stress → Shell → Fraction → Term
+abbrev pub termFor : Stress → Cylinder → Fraction → Term
 termFor Axial s σ = axialTerm s σ
 termFor Ring s σ = ringTerm s σ
 termFor Shear s σ = shearTerm s σ
 
 -- the term of a stress above 0, from below, in millionths
-abbrev pub lowOf : Stress → Shell → ℕ → ℕ → ℕ
+abbrev pub lowOf : Stress → Cylinder → ℕ → ℕ → ℕ
 lowOf kind s num den = let c : Cut = slendernessOf kind s in most (termFor kind s (num // den)) (place c (grid c)) (grid c)
 
-abbrev pub pairOf : Stress → Shell → Load → Pair
+abbrev pub pairOf : Stress → Cylinder → Load → Pair
 pairOf kind s l = let c : Cut = slendernessOf kind s in termBounds (grid c) (l .num) c (termFor kind s (fractionOf l))

@@ -11,7 +11,7 @@ ghost use Rattle.lengths.specs.Short.{shortOf};
 ghost use Rattle.ideal.specs.Decision.{cutOf};
 ghost use Rattle.bounds.specs.Sides.{Sides};
 ghost use Rattle.bounds.specs.Stresses.{part1Of, part2Of, partFor, partOf, Reads, SmallParts, Small, lowOf, pairOf, fractionOf};
-use cylinder::Shell;
+use cylinder::Cylinder;
 use cylinder::Stress;
 use term::Branches;
 use term::Part;
@@ -35,18 +35,18 @@ struct Placed {
 }
 
 // The place of S: on a grid of 1/200,000,000 where S is below 2, and of 1/8,000,000 from 2 up.
-fn place(kind: Stress, short: bool, s: Shell) -> Placed
+fn place(kind: Stress, short: bool, s: Cylinder) -> Placed
     requires { ⌜ (InLimits s) × (short ≡ shortOf kind s) ⌝ }
     ensures { λ r. ⌜ (r .grid ≡ grid (cutOf kind short s)) × (r .at ≡ placeOf (cutOf kind short s) (grid (cutOf kind short s))) × (r .at < base) × (r .grid ≤ 200000000) ⌝ }
 {
-    let k = reach::highest(kind, short, s, 200000000, 400000000);
+    let k = slenderness_grid::highest(kind, short, s, 200000000, 400000000);
     if k < 400000000 {
         return Placed {
             grid: 200000000,
             at: k,
         };
     }
-    let far = reach::highest(kind, short, s, 8000000, 4294967295);
+    let far = slenderness_grid::highest(kind, short, s, 8000000, 4294967295);
     Placed {
         grid: 8000000,
         at: far,
@@ -62,7 +62,7 @@ fn reaches_at(p: Placed, a: u64, b: u64) -> bool
 }
 
 // Whether S is a/b or less, where a/b is a point of the grid: only where S is placed at a/b itself has it to be compared.
-fn within_at(kind: Stress, short: bool, s: Shell, p: Placed, a: u64, b: u64) -> bool
+fn within_at(kind: Stress, short: bool, s: Cylinder, p: Placed, a: u64, b: u64) -> bool
     requires { ⌜ (InLimits s) × (short ≡ shortOf kind s) × (p .grid ≡ grid (cutOf kind short s)) × (p .at ≡ placeOf (cutOf kind short s) (grid (cutOf kind short s))) × (a ≤ 100) × (b ≤ 100) × (0 < b) × (20 * a ≡ 20 * a / b * b) ⌝ }
     ensures { λ r. ⌜ r ≡ cutOf kind short s .within a b ⌝ }
 {
@@ -91,7 +91,7 @@ struct Limits {
 }
 
 // The branches of the curves in which S lies, from its place.
-fn branches(kind: Stress, short: bool, s: Shell, p: Placed) -> Limits
+fn branches(kind: Stress, short: bool, s: Cylinder, p: Placed) -> Limits
     requires { ⌜ (InLimits s) × (short ≡ shortOf kind s) × (p .grid ≡ grid (cutOf kind short s)) × (p .at ≡ placeOf (cutOf kind short s) (grid (cutOf kind short s))) ⌝ }
     ensures { λ r. ⌜ Sides (cutOf kind short s) r ⌝ }
 {
@@ -159,7 +159,7 @@ fn branches_for(kind: Stress, l: Limits) -> Branches
 }
 
 // Thousandths over the permitted imperfection.
-fn excess(s: Shell) -> u64
+fn excess(s: Cylinder) -> u64
     ensures { λ r. ⌜ r ≡ excessOf s ⌝ }
 {
     if 1000 < s.imperfection {
@@ -170,7 +170,7 @@ fn excess(s: Shell) -> u64
 }
 
 // The term of a stress above 0 from below, in millionths, up to 2,000,000.
-fn lowest(kind: Stress, s: Shell, num: u64, den: u64) -> u64
+fn lowest(kind: Stress, s: Cylinder, num: u64, den: u64) -> u64
     requires { ⌜ (InLimits s) × (SmallParts num den) ⌝ }
     ensures { λ r. ⌜ r ≡ lowOf kind s num den ⌝ }
 {
@@ -182,7 +182,7 @@ fn lowest(kind: Stress, s: Shell, num: u64, den: u64) -> u64
 }
 
 // The term of a stress in millionths: 0 for a stress of 0, else less than 2 over its low bound.
-fn term_bounds(kind: Stress, s: Shell, load: Load) -> Bounds
+fn term_bounds(kind: Stress, s: Cylinder, load: Load) -> Bounds
     requires { ⌜ (InLimits s) × Small load ⌝ }
     ensures { λ r. ⌜ (r .low ≡ pairOf kind s load .low) × (r .high ≡ pairOf kind s load .high) × (r .low ≤ 2000000) × (r .high ≤ 2000002) ⌝ }
 {
@@ -201,7 +201,7 @@ fn capped(x: u64) -> u64
 }
 
 // L and U of a cylinder under three stresses, with some millionths more on the high side.
-pub fn of_sum(s: Shell, axial: Load, ring: Load, shear: Load, more: u64) -> Bounds
+pub fn of_sum(s: Cylinder, axial: Load, ring: Load, shear: Load, more: u64) -> Bounds
     requires { ⌜ (InLimits s) × (Small axial) × (Small ring) × (Small shear) × (more ≤ 95) ⌝ }
     ensures { λ r. ⌜ (r .low ≡ sumBounds more s (fractionOf axial) (fractionOf ring) (fractionOf shear) .low) × (r .high ≡ sumBounds more s (fractionOf axial) (fractionOf ring) (fractionOf shear) .high) ⌝ }
 {

@@ -6,7 +6,7 @@ use native.Mathlib.Nat.{mul-pos, one-le-pow}
 use native.Mathlib.Omega.{arith}
 use lib.Dec.{leb, eqb, lit<}
 use borrow.Author.Tests.{leb-true, le-leb}
-use Rattle.cylinder.specs.declared.Shell.{Shell}
+use Rattle.cylinder.specs.declared.Cylinder.{Cylinder}
 use Rattle.cylinder.specs.Fraction.{Fraction, _//_, whole, tenths, hundredths, thousandths, _⊕_, _⊗_, _⊘_, _↑_}
 use Rattle.cylinder.specs.Number.{Number, exactly, plusRoot, minusRoot, scaled}
 use Rattle.algebra.specs.Choice.{pick}
@@ -124,7 +124,7 @@ exact-4 {f} {F} {G} y C e h =
     three : (P : ℕ) → F * (3 * P) ≡ P * C
     three P = rw e (omega arith)
 
-module _ (s : Shell) (ok : Sound s) where
+module _ (s : Cylinder) (ok : Sound s) where
   t/r-like : Like (t/r s) (s .wall) (200 * s .radius)
   t/r-like = again (self _ _) 1 1 _ _ (lit< tt) (lit< tt) (omega arith) (omega arith)
 

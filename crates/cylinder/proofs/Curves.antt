@@ -5,7 +5,7 @@ use Prim.Native.Nat.{ℕ, _*_, _-_, _^_, _≤_, _<_, max}
 use native.Mathlib.Omega.{arith}
 use lib.Dec.{leb, lit<}
 use borrow.Author.Tests.{leb-false}
-use Rattle.cylinder.specs.declared.Shell.{Shell}
+use Rattle.cylinder.specs.declared.Cylinder.{Cylinder}
 use Rattle.cylinder.specs.Fraction.{Fraction, _//_, whole, tenths, hundredths, thousandths, _⊕_, _⊖_, _⊗_, _⊘_, _↑_, _atMost_}
 use Rattle.algebra.specs.Choice.{pick}
 use Rattle.cylinder.specs.Resistance.{Branch2, branch1, branch2, κ1, κ2, tolerance, q, γ2}
@@ -40,10 +40,10 @@ module _ (p r : ℕ) where
   two false false true = record { m = 10; k = 1; m-pos = lit< tt; k-pos = lit< tt; num = omega arith; den = omega arith }
   two false false false = record { m = 10; k = 1; m-pos = lit< tt; k-pos = lit< tt; num = omega arith; den = omega arith }
 
-  excess-of : (s : Shell) → max 1000 (s .imperfection) * 1 - 1 * 1000 ≡ excess s
+  excess-of : (s : Cylinder) → max 1000 (s .imperfection) * 1 - 1 * 1000 ≡ excess s
   excess-of s = omega arith
 
-  slack : (s : Shell) (w : Bool) → s .imperfection ≤ 2000 →
+  slack : (s : Cylinder) (w : Bool) → s .imperfection ≤ 2000 →
       Is (pick w (tenths 1_5 ⊖ tenths 0_5 ⊗ q s) (whole 1 ⊖ g ⊘ whole 3 ⊗ (q s ⊖ whole 1))) (toleranceFactor w (excess s)) p r
   slack s true le = record { m = 1; k = 50; m-pos = lit< tt; k-pos = lit< tt; num = omega arith; den = omega arith }
   slack s false le = record { m = 1; k = 1; m-pos = lit< tt; k-pos = lit< tt; num = omega (arith, ap (λ (z : ℕ). p * z) (excess-of s)); den = omega arith }
@@ -64,7 +64,7 @@ shear-left b d f N = simp (pow-one, pow-two) (omega arith)
 shear-right : (n t D : ℕ) → t ^ 2 * (1 ^ 2 * (D ^ 2 * (1 ^ 2 * 3) * 11 ^ 2)) * n ≡ 3 * (11 * t) ^ 2 * D ^ 2 * n ^ 1
 shear-right n t D = simp (pow-one, pow-two) (omega arith)
 
-module _ (s : Shell) (le : s .imperfection ≤ 2000) (c : Cut) (p r : ℕ) where
+module _ (s : Cylinder) (le : s .imperfection ≤ 2000) (c : Cut) (p r : ℕ) where
   -- κ1 and κ2 with their tolerance
   pub κ1-like : Like (κ1 (branch1 (asNumber c)) (p // r) ⊗ tolerance (branch1 (asNumber c) .from-1·5) (q s) (p // r)) (factor1 c (excess s) .num p r)
       (factor1 c (excess s) .den p r)

@@ -6,7 +6,7 @@ use native.Mathlib.Nat.{mul-pos, mul-le-mul, mul-le-mul-left, mul-le-mul-right, 
 use native.Mathlib.Omega.{arith}
 use lib.Dec.{eqb, lit<}
 use borrow.Author.Tests.{lt-leb}
-use Rattle.cylinder.specs.declared.Shell.{Shell}
+use Rattle.cylinder.specs.declared.Cylinder.{Cylinder}
 use Rattle.algebra.specs.Choice.{pick}
 use Rattle.cylinder.specs.Cut.{Cut}
 use Rattle.cylinder.specs.WholeIdeal.{ringEdges, axialIsShort, ringIsShort, shearIsShort, axialShortCut, axialBent, axialLongCut, axialCut, ringShortCut, ringLongCut, ringCut, shearShortCut, shearLongCut, shearCut}
@@ -28,7 +28,7 @@ squares X Y a b Z r w x y thick lt zpos wpos =
       mul-lt-mul-of-pos-left lt (mul-pos (mul-pos zpos zpos) wpos),
     ))
 
-module _ (s : Shell) (ok : Sound s) where
+module _ (s : Cylinder) (ok : Sound s) where
   axial-short-far : axialShortCut s .reaches 536 1 ≡ false
   axial-short-far = lt-leb _ _ less
     where

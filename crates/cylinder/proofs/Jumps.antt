@@ -4,7 +4,7 @@ use mathlib.Core.Bool.{true, false}
 use Prim.Native.Nat.{_*_, _≤_}
 use native.Mathlib.Omega.{arith}
 use borrow.Author.Tests.{le-leb}
-use Rattle.cylinder.specs.declared.Shell.{Shell}
+use Rattle.cylinder.specs.declared.Cylinder.{Cylinder}
 use Rattle.cylinder.specs.Fraction.{Fraction, whole, tenths, hundredths, _atMost_}
 use Rattle.cylinder.specs.Number.{exactly}
 use Rattle.cylinder.specs.Resistance.{branch1, branch2, κ1, κ2, γ2, tolerance, q}
@@ -52,5 +52,5 @@ pub γ2-meets-0·25 : Equal (atγ (hundredths 0_25) (hundredths 0_25)) (atγ (hu
 equal : (f g : Fraction) → f .num * g .den ≡ g .num * f .den → Equal f g
 equal f g e = (le-leb (f .num * g .den) (g .num * f .den) (omega arith), le-leb (g .num * f .den) (f .num * g .den) (omega arith))
 
-pub tolerance-meets-1·5 : (s : Shell) → s .imperfection ≤ 2000 → Equal (tolerance false (q s) (tenths 1_5)) (tolerance true (q s) (tenths 1_5))
+pub tolerance-meets-1·5 : (s : Cylinder) → s .imperfection ≤ 2000 → Equal (tolerance false (q s) (tenths 1_5)) (tolerance true (q s) (tenths 1_5))
 tolerance-meets-1·5 s le = equal (tolerance false (q s) (tenths 1_5)) (tolerance true (q s) (tenths 1_5)) (omega arith)

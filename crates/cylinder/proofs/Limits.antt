@@ -4,14 +4,14 @@ use Prim.Native.Nat.{_*_, _≤_, _<_}
 use native.Mathlib.Nat.{mul-pos, le-trans, one-le-pow}
 use native.Mathlib.Omega.{arith}
 use lib.Dec.{eqb, lit≤, lit<}
-use Rattle.cylinder.specs.declared.Shell.{Shell}
+use Rattle.cylinder.specs.declared.Cylinder.{Cylinder}
 use Rattle.cylinder.specs.InLimits.{InLimits}
 use Rattle.algebra.specs.Choice.{pick}
 use Rattle.cylinder.specs.WholeIdeal.{ringEdges, axialIsShort, ringIsShort, shearIsShort, axialShortCut, axialLongCut, axialCut, ringShortCut, ringLongCut, ringCut, shearShortCut, shearLongCut, shearCut}
 use Rattle.cylinder.proofs.Lawful.{Lawful, fraction-lawful, root-lawful, rooted-lawful, sum-lawful, difference-lawful, smaller-lawful, pick-lawful}
 
 -- less than the limits, so that later ones may be wider
-pub record Sound (s : Shell) : Type 0 where
+pub record Sound (s : Cylinder) : Type 0 where
   pub radius : 0 < s .radius
   pub wall : 0 < s .wall
   pub length : 0 < s .length
@@ -27,7 +27,7 @@ pub record Sound (s : Shell) : Type 0 where
   pub not-short : s .radius ≤ 20 * s .length
 
 -- a shell within the limits of document 01 is sound
-pub sound : (s : Shell) → InLimits s → Sound s
+pub sound : (s : Cylinder) → InLimits s → Sound s
 sound s w =
     record {
       radius = omega arith;
@@ -56,11 +56,11 @@ eta-pos true b = lit< tt
 eta-pos false true = lit< tt
 eta-pos false false = lit< tt
 
-abbrev pos-modulus : (s : Shell) → Sound s → 0 < s .modulus
+abbrev pos-modulus : (s : Cylinder) → Sound s → 0 < s .modulus
 pos-modulus s ok = omega arith
 
 -- each slenderness is a number
-pub axial-lawful : (s : Shell) → Sound s → Lawful (axialCut s)
+pub axial-lawful : (s : Cylinder) → Sound s → Lawful (axialCut s)
 axial-lawful s ok =
     pick-lawful (axialIsShort s) (axialShortCut s) (axialLongCut s)
     (root-lawful 2 _ (omega arith)
@@ -75,7 +75,7 @@ axial-lawful s ok =
     load : 0 < 121 * s .modulus * s .wall
     load = mul-pos (mul-pos {m = 121} (lit< tt) (pos-modulus s ok)) (ok .wall)
 
-pub ring-lawful : (s : Shell) → Sound s → Lawful (ringCut s)
+pub ring-lawful : (s : Cylinder) → Sound s → Lawful (ringCut s)
 ring-lawful s ok =
     pick-lawful (ringIsShort s) (ringShortCut s) (ringLongCut s)
     (rooted-lawful (23 * ringEdges (s .edges) * s .modulus * s .wall) (20000 * s .length * s .«yield_stress») (s .wall) (200 * s .radius)
@@ -85,7 +85,7 @@ ring-lawful s ok =
     (mul-pos (pos-modulus s ok)
     (omega (arith, mul-pos (mul-pos {m = 44} (lit< tt) (one-le-pow 2 (s .wall) (ok .wall))) (one-le-pow 4 (s .length) (ok .length)))))))
 
-pub shear-lawful : (s : Shell) → Sound s → Lawful (shearCut s)
+pub shear-lawful : (s : Cylinder) → Sound s → Lawful (shearCut s)
 shear-lawful s ok =
     pick-lawful (shearIsShort s) (shearShortCut s) (shearLongCut s)
     (root-lawful 4 _ (omega arith)

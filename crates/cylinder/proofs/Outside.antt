@@ -3,7 +3,7 @@ use Prim.Native.Nat.{ℕ, _+_}
 use mathlib.Core.Bool.{Bool, true, _&&_}
 use mathlib.Core.List.{List, [], _∷_}
 use lib.Dec.{T, leb}
-use Rattle.cylinder.specs.declared.Shell.{Shell}
+use Rattle.cylinder.specs.declared.Cylinder.{Cylinder}
 use Rattle.cylinder.specs.Fraction.{_//_}
 use Rattle.cylinder.specs.Search.{Pair, sumBounds}
 
@@ -11,7 +11,7 @@ use Rattle.cylinder.specs.Search.{Pair, sumBounds}
 row : ℕ → ℕ → ℕ → ℕ → ℕ → ℕ → ℕ → ℕ → ℕ → ℕ → ℕ → ℕ → Bool
 unfolding sumBounds
 row r t l e f edges a x y z d sum =
-    let s : Shell = record { radius = r; wall = t; length = l; modulus = e; «yield_stress» = f; edges = edges; imperfection = a } in
+    let s : Cylinder = record { radius = r; wall = t; length = l; modulus = e; «yield_stress» = f; edges = edges; imperfection = a } in
     let p : Pair = sumBounds 0 s (x // d) (y // d) (z // d) in
     leb (p .low) sum && (leb sum (p .low + 1) && (leb sum (p .high) && leb (p .high) (sum + 2)))
 

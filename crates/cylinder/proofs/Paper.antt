@@ -8,7 +8,7 @@ use native.Mathlib.Nat.{mul-pos, mul-le-mul, mul-le-mul-left, one-le-pow}
 use native.Mathlib.Omega.{arith}
 use lib.Dec.{leb, lit<}
 use borrow.Author.Tests.{leb-true, leb-false, le-leb}
-use Rattle.cylinder.specs.declared.Shell.{Shell}
+use Rattle.cylinder.specs.declared.Cylinder.{Cylinder}
 use Rattle.cylinder.specs.Fraction.{Fraction, whole, tenths, _⊘_, _↑_, _atMost_}
 use Rattle.cylinder.specs.Number.{Number, exactly}
 use Rattle.cylinder.specs.Resistance.{Branch1, Branch2, branch1, branch2, axialS, ringS, shearS, κ1, κ2, tolerance, q, axialR, ringR, shearRSquare}
@@ -46,13 +46,13 @@ genuine S c same law =
     go f pos true e = inr (same .within (f .num) (f .den) ∙ e)
     go f pos false e = inl (same .reaches (f .num) (f .den) ∙ reaches-over c law (f .num) (f .den) pos e)
 
-pub axial-genuine : (s : Shell) → Sound s → Genuine (axialS s)
+pub axial-genuine : (s : Cylinder) → Sound s → Genuine (axialS s)
 axial-genuine s ok = genuine (axialS s) (WholeIdeal.axialCut s) (axial-agree s ok) (axial-lawful s ok)
 
-pub ring-genuine : (s : Shell) → Sound s → Genuine (ringS s)
+pub ring-genuine : (s : Cylinder) → Sound s → Genuine (ringS s)
 ring-genuine s ok = genuine (ringS s) (WholeIdeal.ringCut s) (ring-agree s ok) (ring-lawful s ok)
 
-pub shear-genuine : (s : Shell) → Sound s → Genuine (shearS s)
+pub shear-genuine : (s : Cylinder) → Sound s → Genuine (shearS s)
 shear-genuine s ok = genuine (shearS s) (WholeIdeal.shearCut s) (shear-agree s ok) (shear-lawful s ok)
 
 -- above 0, and so no difference in a curve is cut off
@@ -83,7 +83,7 @@ pub κ2-positive : (g : Fraction) → 0 < g .den → Positive (κ2 (branch2 (exa
         let some : 0 < g .num = omega (arith, leb-false (g .num * 1) (1 * g .den) e) in
         rw (d, e, f) (mul-pos {m = 2} (lit< tt) (one-le-pow 2 (g .den) pos), mul-pos {m = 10} (lit< tt) (one-le-pow 2 (g .num) some))
 
-pub tolerance-positive : (s : Shell) → s .imperfection ≤ 2000 → (g : Fraction) → 0 < g .den → Positive (tolerance (exactly g .reaches (tenths 1_5)) (q s) g)
+pub tolerance-positive : (s : Cylinder) → s .imperfection ≤ 2000 → (g : Fraction) → 0 < g .den → Positive (tolerance (exactly g .reaches (tenths 1_5)) (q s) g)
 tolerance-positive s le g pos = go (leb (15 * g .den) (g .num * 10)) refl
   where
     go : (a : Bool) → leb (15 * g .den) (g .num * 10) ≡ a → Positive (tolerance (exactly g .reaches (tenths 1_5)) (q s) g)
@@ -103,7 +103,7 @@ fall-square : (f N D N' D' : ℕ) → N * D' ≤ N' * D → N ^ 2 * (f ^ 2 * 1) 
 fall-square f N D N' D' h = simp pow-two (omega (arith, mul-le-mul-left (36300 * (f * f)) (mul-le-mul h h)))
 
 -- g and h in the same branches, g ≤ h: the resistance at h is at most that at g
-module _ (s : Shell) (ok : Sound s) (g h : Fraction) (le : (g atMost h) ≡ true) where
+module _ (s : Cylinder) (ok : Sound s) (g h : Fraction) (le : (g atMost h) ≡ true) where
   abbrev c : Cut
   c = fraction (h .num) (h .den)
 

@@ -7,7 +7,7 @@ use native.Mathlib.Nat.{mul-le-mul-left, pow-suc}
 use native.Mathlib.Omega.{arith}
 use lib.Dec.{lit<}
 use borrow.Author.Tests.{le-leb}
-use Rattle.cylinder.specs.declared.Shell.{Shell}
+use Rattle.cylinder.specs.declared.Cylinder.{Cylinder}
 use Rattle.cylinder.specs.Fraction.{Fraction, whole, _//_, _⊗_, _⊘_, _↑_, _atMost_}
 use Rattle.cylinder.specs.Number.{Number, exactly, power-1·25}
 use Rattle.cylinder.specs.Exact.{AtMost, SumOver}
@@ -34,7 +34,7 @@ no-power N u = le-leb (0 ^ 4 * (u ↑ 5) .den) ((u ↑ 5) .num * N ^ 4) (omega a
 no-square : (N : ℕ) (u : Fraction) → (0 // N atMost u) ≡ true
 no-square N u = le-leb (0 * u .den) (u .num * N) (omega arith)
 
-module _ (s : Shell) (ok : Sound s) where
+module _ (s : Cylinder) (ok : Sound s) where
   pub axial-0 : (σ : Fraction) (N : ℕ) → AxialReaches s σ 0 N
   axial-0 σ N =
       nothing Branch2 branch2 (axialS s) σ (axialTest s σ) _ 1000000 N (λ br g. no-power N (σ ⊘ (whole 1000 ⊗ axialR s br g)))
@@ -72,7 +72,7 @@ module _ {X Y Z : ℕ → ℕ → Type 0} (x y : ℕ) (h : AtMost (SumOver X Y Z
       λ lt. h (record { b = 0; c = 0; d = b; N = N; positive = pos; first = X-0 N; second = Y-0 N; third = r; over = omega arith }) in
       omega arith
 
-module _ (s : Shell) (ok : Sound s) (σx σφ τ : Fraction) (x y : ℕ) (h : AtMost (Over s σx σφ τ) x y) where
+module _ (s : Cylinder) (ok : Sound s) (σx σφ τ : Fraction) (x y : ℕ) (h : AtMost (Over s σx σφ τ) x y) where
   axial-below : (b N : ℕ) → 0 < N → AxialReaches s σx b N → b * y ≤ x * N
   axial-below = first-below x y h (axial-0 s ok σx) (ring-0 s ok σφ) (shear-0 s ok τ)
 
@@ -146,7 +146,7 @@ exactly-one u h = le-leb (u .num * 1) (1 * u .den) (omega (arith, first-most (u 
 no-ratio : (σ f : Fraction) → σ .num ≡ 0 → (σ ⊘ f atMost whole 1) ≡ true
 no-ratio σ f e = le-leb (σ .num * f .den * 1) (1 * (σ .den * f .num)) (rw e (omega arith))
 
-module _ (s : Shell) (ok : Sound s) (σx σφ τ : Fraction) (h : AtMost (Over s σx σφ τ) 1 1) where
+module _ (s : Cylinder) (ok : Sound s) (σx σφ τ : Fraction) (h : AtMost (Over s σx σφ τ) 1 1) where
   pub axial-ratio : AtMostOne Branch2 branch2 (axialS s) (λ br g. σx ⊘ (whole 1000 ⊗ axialR s br g))
   axial-ratio =
       kept Branch2 branch2 (axialS s) σx power-1·25 (λ br g. σx ⊘ (whole 1000 ⊗ axialR s br g)) (λ e br g. no-ratio σx (whole 1000 ⊗ axialR s br g) e) power-one

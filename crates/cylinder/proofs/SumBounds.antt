@@ -8,7 +8,7 @@ use native.Mathlib.Omega.{arith}
 use lib.Dec.{leb, lit≤, lit<}
 use borrow.Author.Tests.{le-leb}
 use Rattle.algebra.specs.Bisection.{Edge}
-use Rattle.cylinder.specs.declared.Shell.{Shell}
+use Rattle.cylinder.specs.declared.Cylinder.{Cylinder}
 use Rattle.cylinder.specs.Fraction.{Fraction, _//_}
 use Rattle.cylinder.specs.Number.{Number, exactly}
 use Rattle.cylinder.specs.Resistance.{Branch1, Branch2, branch1, branch2, axialS, ringS, shearS}
@@ -123,7 +123,7 @@ module _ (Branch : Type 0) (branch : Number → Branch) (S : Number) (c : Cut) (
       go zero e = nothing e
       go (suc x) e = let pos : 0 < σ .num = omega arith in something _ _ pos (fit pos)
 
-pub axial-bracket : (s : Shell) → Sound s → (σ : Fraction) →
+pub axial-bracket : (s : Cylinder) → Sound s → (σ : Fraction) →
     Bracket (AxialReaches s σ) (axialBounds s σ .low) (axialBounds s σ .high)
 axial-bracket s ok σ =
     let c : Cut = WholeIdeal.axialCut s in
@@ -136,7 +136,7 @@ axial-bracket s ok σ =
     (one-le-pow 5 (11 * σ .num) (omega arith)) (lit≤ tt))
     (at .missed) (omega arith))
 
-pub ring-bracket : (s : Shell) → Sound s → (σ : Fraction) →
+pub ring-bracket : (s : Cylinder) → Sound s → (σ : Fraction) →
     Bracket (RingReaches s σ) (ringBounds s σ .low) (ringBounds s σ .high)
 ring-bracket s ok σ =
     let c : Cut = WholeIdeal.ringCut s in
@@ -149,7 +149,7 @@ ring-bracket s ok σ =
     (one-le-pow 5 (11 * σ .num) (omega arith)) (lit≤ tt))
     (at .missed) (omega arith))
 
-pub shear-bracket : (s : Shell) → Sound s → (τ : Fraction) →
+pub shear-bracket : (s : Cylinder) → Sound s → (τ : Fraction) →
     Bracket (ShearReaches s τ) (shearBounds s τ .low) (shearBounds s τ .high)
 shear-bracket s ok τ =
     let c : Cut = WholeIdeal.shearCut s in
@@ -211,9 +211,9 @@ abbrev pub Tight : (ℕ → ℕ → Type 0) → Pair → Type 0
 Tight Sum p = Encloses Sum (p .low) (p .high) × Close (p .low) (p .high)
 
 -- the theorem: for every sound shell, and so for every shell within the limits, and all stresses
-pub sum-bounds : (more : ℕ) → more ≤ 95 → (s : Shell) → Sound s → (σx σφ τ : Fraction) → Tight (Over s σx σφ τ) (sumBounds more s σx σφ τ)
+pub sum-bounds : (more : ℕ) → more ≤ 95 → (s : Cylinder) → Sound s → (σx σφ τ : Fraction) → Tight (Over s σx σφ τ) (sumBounds more s σx σφ τ)
 unfolding sumBounds
 sum-bounds more few s ok σx σφ τ = sum-enclosed (axial-bracket s ok σx) (ring-bracket s ok σφ) (shear-bracket s ok τ) more few
 
-pub sum-bounds-within : (more : ℕ) → more ≤ 95 → (s : Shell) → InLimits s → (σx σφ τ : Fraction) → Tight (Over s σx σφ τ) (sumBounds more s σx σφ τ)
+pub sum-bounds-within : (more : ℕ) → more ≤ 95 → (s : Cylinder) → InLimits s → (σx σφ τ : Fraction) → Tight (Over s σx σφ τ) (sumBounds more s σx σφ τ)
 sum-bounds-within more few s w σx σφ τ = sum-bounds more few s (sound s w) σx σφ τ

@@ -2,7 +2,7 @@
 -- The slenderness S is a number. The curves are worked in fractions: in given branches, at a fraction g.
 use Prim.Native.Nat.{max}
 use mathlib.Core.Bool.{Bool}
-use Rattle.cylinder.specs.declared.Shell.{Shell}
+use Rattle.cylinder.specs.declared.Cylinder.{Cylinder}
 use Rattle.cylinder.specs.Fraction.{Fraction, whole, tenths, hundredths, thousandths, _⊕_, _⊖_, _⊗_, _⊘_, _↑_}
 use Rattle.cylinder.specs.Number.{Number}
 use Rattle.algebra.specs.Choice.{pick}
@@ -18,13 +18,13 @@ slender f stress = record { reaches = λ g. stress .within (f ⊘ g ↑ 2); with
 abbrev pub slenderShear : Fraction → Number → Number
 slenderShear f square = record { reaches = λ g. square .within (f ↑ 2 ⊘ (whole 3 ⊗ g ↑ 4)); within = λ g. square .reaches (f ↑ 2 ⊘ (whole 3 ⊗ g ↑ 4)) }
 
-abbrev pub axialS : Shell → Number
+abbrev pub axialS : Cylinder → Number
 axialS s = slender (fy s) (idealAxial s)
 
-abbrev pub ringS : Shell → Number
+abbrev pub ringS : Cylinder → Number
 ringS s = slender (fy s) (idealRing s)
 
-abbrev pub shearS : Shell → Number
+abbrev pub shearS : Cylinder → Number
 shearS s = slenderShear (fy s) (idealShearSquare s)
 
 -- ---- the branches in which a number lies: its answers at the limits of the curves
@@ -72,7 +72,7 @@ abbrev pub κ2 : Branch2 → Fraction → Fraction
 -- ---- tolerance, element 305
 
 -- the ratio q of found to permitted imperfection: a/1000, and 1 for a below 1000
-abbrev pub q : Shell → Fraction
+abbrev pub q : Cylinder → Fraction
 q s = thousandths (max 1000 (s .imperfection))
 
 -- (23): 1.5 - 0.5 q from 1.5; 1 - (S/3) (q - 1) below
@@ -93,22 +93,22 @@ abbrev pub γ2 : Branch2 → Fraction → Fraction
 
 -- ---- the factors reduced by the tolerance, "red κ" of (23)
 
-abbrev pub reducedκ1 : Shell → Branch1 → Fraction → Fraction
+abbrev pub reducedκ1 : Cylinder → Branch1 → Fraction → Fraction
 reducedκ1 s br g = κ1 br g ⊗ tolerance (br .from-1·5) (q s) g
 
-abbrev pub reducedκ2 : Shell → Branch2 → Fraction → Fraction
+abbrev pub reducedκ2 : Cylinder → Branch2 → Fraction → Fraction
 reducedκ2 s br g = κ2 br g ⊗ tolerance (br .from-1·5) (q s) g
 
 -- ---- design resistance R in N/mm², elements 203 and 205
 
 -- (4), (9): κ fy over the factor
-abbrev pub axialR : Shell → Branch2 → Fraction → Fraction
+abbrev pub axialR : Cylinder → Branch2 → Fraction → Fraction
 axialR s br g = reducedκ2 s br g ⊗ fy s ⊘ γ2 br g
 
 -- (5), (10)
-abbrev pub ringR : Shell → Branch1 → Fraction → Fraction
+abbrev pub ringR : Cylinder → Branch1 → Fraction → Fraction
 ringR s br g = reducedκ1 s br g ⊗ fy s ⊘ γ1
 
 -- (6), (11): the square, that of κ fy/√3 over the factor. Decision 11: 003 prints κ = fy/√3.
-abbrev pub shearRSquare : Shell → Branch1 → Fraction → Fraction
+abbrev pub shearRSquare : Cylinder → Branch1 → Fraction → Fraction
 shearRSquare s br g = reducedκ1 s br g ↑ 2 ⊗ (fy s ↑ 2 ⊘ whole 3) ⊘ γ1 ↑ 2

@@ -4,7 +4,7 @@ use Prim.Native.Nat.{ℕ, zero, suc, _+_, _/_, min}
 use mathlib.Core.Bool.{_&&_}
 use lib.Dec.{leb}
 use Rattle.algebra.specs.Bisection.{bisect}
-use Rattle.cylinder.specs.declared.Shell.{Shell}
+use Rattle.cylinder.specs.declared.Cylinder.{Cylinder}
 use Rattle.cylinder.specs.Fraction.{Fraction}
 use Rattle.algebra.specs.Choice.{pick}
 use Rattle.cylinder.specs.Cut.{Cut}
@@ -40,17 +40,17 @@ unfolding place most
 termBounds q zero s t = record { low = 0; high = 0 }
 termBounds q (suc x) s t = let k : ℕ = place s q in around (most t k q)
 
-abbrev pub axialBounds : Shell → Fraction → Pair
+abbrev pub axialBounds : Cylinder → Fraction → Pair
 axialBounds s σ = termBounds (grid (axialCut s)) (σ .num) (axialCut s) (axialTerm s σ)
 
-abbrev pub ringBounds : Shell → Fraction → Pair
+abbrev pub ringBounds : Cylinder → Fraction → Pair
 ringBounds s σ = termBounds (grid (ringCut s)) (σ .num) (ringCut s) (ringTerm s σ)
 
-abbrev pub shearBounds : Shell → Fraction → Pair
+abbrev pub shearBounds : Cylinder → Fraction → Pair
 shearBounds s τ = termBounds (grid (shearCut s)) (τ .num) (shearCut s) (shearTerm s τ)
 
 -- L and U, in ten-thousandths; `more` is added to the sum on its high side, in millionths
-unfoldable pub sumBounds : ℕ → Shell → Fraction → Fraction → Fraction → Pair
+unfoldable pub sumBounds : ℕ → Cylinder → Fraction → Fraction → Fraction → Pair
 unfolding grid termBounds
 sumBounds more s σx σφ τ =
     let a : Pair = axialBounds s σx in

@@ -2,7 +2,7 @@
 // is, and proofs/ what bounds of it are right.
 
 // Whole numbers, by document 01, "The record", save for the wall.
-pub struct Shell {
+pub struct Cylinder {
     // radius of the middle surface, mm
     pub radius: u64,
     // nominal thickness in 200ths of a mm, so that half of a hundredth is still whole

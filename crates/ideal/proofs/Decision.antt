@@ -6,9 +6,9 @@ use Rattle.wide.specs.declared.Order.{Order}
 use Rattle.wide.specs.declared.Order.the-variants.{Less, Equal, Greater}
 use Rattle.wide.specs.Order.{atMost}
 use Rattle.cylinder.specs.Cut.{Cut, smaller}
-use Rattle.cylinder.specs.declared.Shell.{Shell}
+use Rattle.cylinder.specs.declared.Cylinder.{Cylinder}
 use Rattle.cylinder.specs.declared.Stress.{Stress}
-use Rattle.rooted.specs.Decision.{Decides, atLeast}
+use Rattle.root_order.specs.Decision.{Decides, atLeast}
 use Rattle.ideal.specs.Decision.{laterOf, cutOf}
 
 later-most : (a b : Order) → atMost (laterOf a b) ≡ (atMost a && atMost b)
@@ -34,5 +34,5 @@ decides-smaller s t p q {o} {a} {b} e h k =
     }
 
 -- the stress and the branch that the code has found
-pub decides-at : {o : Order} {k : Stress} {b : Bool} (s : Shell) (p q : ℕ) (k' : Stress) (b' : Bool) → k ≡ k' → b ≡ b' → Decides o (cutOf k' b' s) p q → Decides o (cutOf k b s) p q
+pub decides-at : {o : Order} {k : Stress} {b : Bool} (s : Cylinder) (p q : ℕ) (k' : Stress) (b' : Bool) → k ≡ k' → b ≡ b' → Decides o (cutOf k' b' s) p q → Decides o (cutOf k b s) p q
 decides-at s p q k' b' e h d = rw (e, h) d

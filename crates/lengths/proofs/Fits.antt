@@ -8,11 +8,11 @@ use Rattle.algebra.proofs.Powers.{pow-two, pow-three}
 use Rattle.cylinder.specs.WholeIdeal.{ringIsShort, ringEdges}
 use native.Mathlib.Nat.{mul-le-mul, mul-assoc}
 use native.Mathlib.Omega.{arith}
-use Rattle.cylinder.specs.declared.Shell.{Shell}
+use Rattle.cylinder.specs.declared.Cylinder.{Cylinder}
 use Rattle.cylinder.specs.InLimits.{InLimits}
 use Rattle.cylinder.proofs.Limits.{edges-four}
 
-module _ (s : Shell) (ok : InLimits s) where
+module _ (s : Cylinder) (ok : InLimits s) where
   pub length-two : s .length * s .length ≤ 40000000000
   length-two = mul-le-mul (ok .length-most) (ok .length-most)
 
@@ -53,7 +53,7 @@ module _ (c r : ℕ) (small : c ≤ 6) (below : r < 11500) where
 pub wide-enough : (c r x : ℕ) → 4 ≤ c → 11500 ≤ r → x ≤ 800000000000000 → 800 * x ≤ 26569 * (c * c) * (r * r * r)
 wide-enough c r x four from h = omega (arith, mul-le-mul (mul-le-mul four four) (mul-le-mul (mul-le-mul from from) from))
 
-pub short-from : (s : Shell) → InLimits s → 11500 ≤ s .radius → true ≡ ringIsShort s
+pub short-from : (s : Cylinder) → InLimits s → 11500 ≤ s .radius → true ≡ ringIsShort s
 short-from s ok from = sym (le-leb (800 * s .length ^ 2 * s .wall) (26569 * ringEdges (s .edges) ^ 2 * s .radius ^ 3) enough)
   where
     enough : 800 * s .length ^ 2 * s .wall ≤ 26569 * ringEdges (s .edges) ^ 2 * s .radius ^ 3

@@ -4,7 +4,7 @@ ghost use Prim.Native.Nat.{_≤_};
 ghost use Rattle.cylinder.specs.InLimits.{InLimits};
 ghost use Rattle.cylinder.specs.WholeIdeal.{eta as etaOf, ringEdges, axialIsShort, ringIsShort, shearIsShort};
 ghost use Rattle.lengths.specs.Short.{shortOf};
-use cylinder::Shell;
+use cylinder::Cylinder;
 use cylinder::Stress;
 
 // η of table 1.
@@ -34,7 +34,7 @@ pub fn ring_edges(edges: u64) -> u64
 }
 
 // Whether the cylinder is short for axial stress.
-fn axial_short(s: Shell) -> bool
+fn axial_short(s: Cylinder) -> bool
     requires { ⌜ InLimits s ⌝ }
     ensures { λ r. ⌜ r ≡ axialIsShort s ⌝ }
 {
@@ -44,7 +44,7 @@ fn axial_short(s: Shell) -> bool
 }
 
 // Whether the cylinder is short for ring stress: for a radius from 11,500 on it always is.
-fn ring_short(s: Shell) -> bool
+fn ring_short(s: Cylinder) -> bool
     requires { ⌜ InLimits s ⌝ }
     ensures { λ r. ⌜ r ≡ ringIsShort s ⌝ }
 {
@@ -58,7 +58,7 @@ fn ring_short(s: Shell) -> bool
 }
 
 // Whether the cylinder is short for shear.
-fn shear_short(s: Shell) -> bool
+fn shear_short(s: Cylinder) -> bool
     requires { ⌜ InLimits s ⌝ }
     ensures { λ r. ⌜ r ≡ shearIsShort s ⌝ }
 {
@@ -68,7 +68,7 @@ fn shear_short(s: Shell) -> bool
 }
 
 // Whether the cylinder is short for a stress.
-pub fn is_short(kind: Stress, s: Shell) -> bool
+pub fn is_short(kind: Stress, s: Cylinder) -> bool
     requires { ⌜ InLimits s ⌝ }
     ensures { λ r. ⌜ r ≡ shortOf kind s ⌝ }
 {

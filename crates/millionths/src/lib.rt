@@ -6,11 +6,11 @@ ghost use Prim.Native.Nat.{ℕ, _*_, _≤_, _^_};
 ghost use lib.ListN.{length};
 ghost use Rattle.wide.specs.Value.{limbs, value, Limbs, Is};
 ghost use Rattle.factors.specs.Product.{prod};
-ghost use Rattle.near.specs.Around.{Around};
+ghost use Rattle.interval.specs.Around.{Around};
 ghost use Rattle.millionths.specs.Reached.{reachedBy};
 use guess::Degree;
-use near::Near;
-use settle::Found;
+use interval::Interval;
+use interval_root::Found;
 use wide::LIMBS;
 
 // The power of a fraction y/x that a term is: (y/x)^(5/4) for axial and ring stress, 3 (y/x)² for shear.
@@ -20,18 +20,18 @@ pub enum Power {
 }
 
 // Bounds of x times the product of four factors.
-fn bounds(f: [u64; 4], x: u64) -> Near
+fn bounds(f: [u64; 4], x: u64) -> Interval
     ensures { λ r. ⌜ Around r (x * prod f) ⌝ }
 {
-    near::times(near::of(x), enclosure::bounds_of(&f))
+    interval::times(interval::of(x), interval_product::bounds_of(&f))
 }
 
 // Bounds of a fifth power.
-fn fifth(x: Near) -> Near
+fn fifth(x: Interval) -> Interval
     ensures { λ r. ⌜ ((n : ℕ) → Around x n → Around r (n ^ 5)) ⌝ }
 {
-    let s = near::times(x, x);
-    near::times(near::times(s, s), x)
+    let s = interval::times(x, x);
+    interval::times(interval::times(s, s), x)
 }
 
 // Sets the number to x times the product of four factors.
@@ -44,18 +44,18 @@ fn scaled(l: &mut [u64; LIMBS], f: [u64; 4], x: u64) -> usize
 }
 
 // How many millionths the power of y/x reaches, up to 2,000,000, if bounds of x and y settle it.
-fn settled(power: Power, x: Near, y: Near) -> Found
+fn settled(power: Power, x: Interval, y: Interval) -> Found
     ensures { λ r. ⌜ (r .known ≡ true → (n m : ℕ) → Around x n → Around y m → r .at ≡ reachedBy power n m) ⌝ }
 {
     match power {
         Power::FiveQuarters => {
-            let t = near::of(1000000000000);
-            let y5 = near::times(near::times(fifth(y), t), t);
-            settle::settled(fifth(x), y5, Degree::Four, 2000000)
+            let t = interval::of(1000000000000);
+            let y5 = interval::times(interval::times(fifth(y), t), t);
+            interval_root::settled(fifth(x), y5, Degree::Four, 2000000)
         }
         Power::ThreeSquares => {
-            let y2 = near::times(near::times(y, y), near::of(3000000));
-            settle::settled(near::times(x, x), y2, Degree::One, 2000000)
+            let y2 = interval::times(interval::times(y, y), interval::of(3000000));
+            interval_root::settled(interval::times(x, x), y2, Degree::One, 2000000)
         }
     }
 }

@@ -11,7 +11,7 @@ use Rattle.answer.specs.Checks.{AllPassed}
 use Rattle.record.specs.declared.Wall.{Wall}
 use Rattle.record.specs.declared.Group.{Group}
 use Rattle.record.specs.declared.Record.{Record}
-use Rattle.record.specs.Limits.{fromTo, dimensions, material, stresses, inRange, checks, shellOf}
+use Rattle.record.specs.Limits.{fromTo, dimensions, material, stresses, inRange, checks, cylinderOf}
 
 -- a number in its range
 pub record Between (low high x : ℕ) : Type 0 where
@@ -55,8 +55,8 @@ ranges c h =
     }
 
 -- the cylinder of a record that passes every check is within the limits
-pub shell-within : (c : Record) → AllPassed (checks c) → InLimits (shellOf (c .wall))
-shell-within c (r, (e, (w, (l, (t, u))))) =
+pub cylinder-within : (c : Record) → AllPassed (checks c) → InLimits (cylinderOf (c .wall))
+cylinder-within c (r, (e, (w, (l, (t, u))))) =
     let W : Wall = c .wall in
     let rs = ranges c r in
     let thick = between (20 * W .thickness) (2500 * W .thickness) (100 * W .radius) w in

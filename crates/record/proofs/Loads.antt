@@ -2,7 +2,7 @@
 use mathlib.Core.Path.{_≡_, ap, _∙_}
 use Prim.Native.Nat.{ℕ, _≤_, _<_}
 use native.Mathlib.Omega.{arith}
-use Rattle.cylinder.specs.declared.Shell.{Shell}
+use Rattle.cylinder.specs.declared.Cylinder.{Cylinder}
 use Rattle.cylinder.specs.Fraction.{Fraction, whole, _//_}
 use Rattle.cylinder.specs.Search.{Pair, sumBounds}
 use Rattle.bounds.specs.declared.Load.{Load}
@@ -17,7 +17,7 @@ load-small l (n, d) h = (omega arith, omega arith)
 load-whole : {x : ℕ} (l : Load) → (l .num ≡ x) × (l .den ≡ 1) → fractionOf l ≡ whole x
 load-whole l (n, d) = λ i. n i // d i
 
-pub bounds-are : (s t : Shell) (X Y Z : Load) (x y z : ℕ) (low high : ℕ) → s ≡ t → (X .num ≡ x) × (X .den ≡ 1) → (Y .num ≡ y) × (Y .den ≡ 1) → (Z .num ≡ z) × (Z .den ≡ 1) →
+pub bounds-are : (s t : Cylinder) (X Y Z : Load) (x y z : ℕ) (low high : ℕ) → s ≡ t → (X .num ≡ x) × (X .den ≡ 1) → (Y .num ≡ y) × (Y .den ≡ 1) → (Z .num ≡ z) × (Z .den ≡ 1) →
     low ≡ sumBounds 0 s (fractionOf X) (fractionOf Y) (fractionOf Z) .low → high ≡ sumBounds 0 s (fractionOf X) (fractionOf Y) (fractionOf Z) .high →
     judgementOf low high ≡ judgementOf (sumBounds 0 t (whole x) (whole y) (whole z) .low) (sumBounds 0 t (whole x) (whole y) (whole z) .high)
 bounds-are s t X Y Z x y z low high e ex ey ez l h = λ i. judgementOf ((l ∙ ap (λ (p : Pair). p .low) same) i) ((h ∙ ap (λ (p : Pair). p .high) same) i)

@@ -25,15 +25,15 @@ use Rattle.answer.proofs.Checks.{Among, among-every, broken-passed}
 use Rattle.answer.proofs.Right
 use Rattle.answer.proofs.Verdicts.{verdict-holds, verdict-fails, verdict-open, holds-verdict, fails-verdict}
 use Rattle.record.specs.declared.Record.{Record}
-use Rattle.record.specs.Limits.{checks, shellOf}
+use Rattle.record.specs.Limits.{checks, cylinderOf}
 use Rattle.record.specs.Right.{RecordOver, Bounds, Right, Means}
 use Rattle.record.specs.Answering.{boundsOf, judgementOfRecord, recordAnswer}
-use Rattle.record.proofs.Checks.{shell-within}
+use Rattle.record.proofs.Checks.{cylinder-within}
 
 pub bounds-right : (c : Record) → AllPassed (checks c) → Bounds c (judgementOfRecord c)
 unfolding boundsOf
 bounds-right c all =
-    let b = sum-bounds-within 0 (lit≤ tt) (shellOf (c .wall)) (shell-within c all) (whole (c .group .axial)) (whole (c .group .ring)) (whole (c .group .shear)) in
+    let b = sum-bounds-within 0 (lit≤ tt) (cylinderOf (c .wall)) (cylinder-within c all) (whole (c .group .axial)) (whole (c .group .ring)) (whole (c .group .shear)) in
     record { encloses = b .0; close = b .1 }
 
 pub record-right : (c : Record) → Right c (recordAnswer c)

@@ -6,12 +6,12 @@ use Rattle.answer.specs.declared.Answer.{Answer}
 use Rattle.answer.specs.declared.Answer.the-variants.{Refused, Judged}
 use Rattle.answer.specs.Answering.{firstOr, judgementOf}
 use Rattle.record.specs.declared.Record.{Record}
-use Rattle.record.specs.Limits.{checks, shellOf}
+use Rattle.record.specs.Limits.{checks, cylinderOf}
 
 -- L and U, by the one rule of cylinder's Search
 unfoldable pub boundsOf : Record → Pair
 unfolding sumBounds
-boundsOf c = sumBounds 0 (shellOf (c .wall)) (whole (c .group .axial)) (whole (c .group .ring)) (whole (c .group .shear))
+boundsOf c = sumBounds 0 (cylinderOf (c .wall)) (whole (c .group .axial)) (whole (c .group .ring)) (whole (c .group .shear))
 
 abbrev pub judgementOfRecord : Record → Judgement
 judgementOfRecord c = judgementOf (boundsOf c .low) (boundsOf c .high)

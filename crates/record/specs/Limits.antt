@@ -7,7 +7,7 @@ use Rattle.answer.specs.Checks.{Check, check}
 use Rattle.record.specs.declared.Wall.{Wall}
 use Rattle.record.specs.declared.Group.{Group}
 use Rattle.record.specs.declared.Record.{Record}
-use Rattle.cylinder.specs.declared.Shell.{Shell}
+use Rattle.cylinder.specs.declared.Cylinder.{Cylinder}
 
 -- x is from low to high
 abbrev pub fromTo : ℕ → ℕ → ℕ → Bool
@@ -74,8 +74,8 @@ recordOf r t l E fy edges a σx σφ τ =
     }
 
 -- ---- the cylinder of a wall: hundredths of a mm in 200ths
-abbrev pub shellOf : Wall → Shell
-shellOf w =
+abbrev pub cylinderOf : Wall → Cylinder
+cylinderOf w =
     record {
       radius = w .radius;
       wall = 2 * w .thickness;

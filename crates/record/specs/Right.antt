@@ -9,11 +9,11 @@ use Rattle.answer.specs.declared.Judgement.{Judgement}
 use Rattle.answer.specs.declared.Answer.{Answer}
 use Rattle.answer.specs.Right.{RightBy}
 use Rattle.record.specs.declared.Record.{Record}
-use Rattle.record.specs.Limits.{checks, shellOf}
+use Rattle.record.specs.Limits.{checks, cylinderOf}
 
 -- the exact sum of a record is over x/y
 abbrev pub RecordOver : Record → ℕ → ℕ → Type 0
-RecordOver c = Over (shellOf (c .wall)) (whole (c .group .axial)) (whole (c .group .ring)) (whole (c .group .shear))
+RecordOver c = Over (cylinderOf (c .wall)) (whole (c .group .axial)) (whole (c .group .ring)) (whole (c .group .shear))
 
 -- L and U enclose the exact sum, and are close
 pub record Bounds (c : Record) (j : Judgement) : Type 0 where

@@ -2,13 +2,13 @@
 ghost use mathlib.Core.Path.{_≡_};
 ghost use Prim.Native.Nat.{_*_, _≤_};
 ghost use Rattle.answer.specs.Checks.{AllPassed};
-ghost use Rattle.record.specs.Limits.{fromTo, inRange, dimensions, material, stresses, edgesKnown, wallRatio, lengthRatio, tolerated, checks, shellOf, recordOf};
+ghost use Rattle.record.specs.Limits.{fromTo, inRange, dimensions, material, stresses, edgesKnown, wallRatio, lengthRatio, tolerated, checks, cylinderOf, recordOf};
 ghost use Rattle.record.specs.Right.{Right};
 ghost use Rattle.record.specs.Answering.{judgementOfRecord, recordAnswer};
 use answer::Answer;
 use answer::Judgement;
 use bounds::Load;
-use cylinder::Shell;
+use cylinder::Cylinder;
 
 // A shell without its load: its wall, material and edges. Each field is any u64.
 pub struct Wall {
@@ -130,11 +130,11 @@ impl Wall {
     }
 
     // The cylinder of a wall: hundredths of a mm in 200ths.
-    fn shell(self) -> Shell
+    fn cylinder(self) -> Cylinder
         requires { ⌜ self .thickness ≤ 10000 ⌝ }
-        ensures { λ r. ⌜ r ≡ shellOf self ⌝ }
+        ensures { λ r. ⌜ r ≡ cylinderOf self ⌝ }
     {
-        Shell {
+        Cylinder {
             radius: self.radius,
             wall: 2 * self.thickness,
             length: self.length,
@@ -229,7 +229,7 @@ impl Record {
     {
         let wall = self.wall;
         let group = self.group;
-        let s = wall.shell();
+        let s = wall.cylinder();
         let x = load(group.axial);
         let y = load(group.ring);
         let z = load(group.shear);

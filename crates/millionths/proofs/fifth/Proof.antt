@@ -3,7 +3,7 @@ use mathlib.Core.Path.{_≡_, refl}
 use mathlib.Core.List.{[], _∷_}
 use Prim.Native.Nat.{ℕ, _*_, _^_}
 use Rattle.algebra.proofs.Ring.{ring, quoted}
-use Rattle.near.proofs.Bounds.{around-as}
+use Rattle.interval.proofs.Bounds.{around-as}
 use borrow.Author.Needs.{needs}
 use Rattle.millionths.proofs.fifth.Statement.{statement}
 use Rattle.millionths.proofs.fifth.Tie as tie

@@ -2,7 +2,7 @@
 use mathlib.Core.Path.{refl, sym, ap, _∙_}
 use native.Mathlib.Omega.{arith}
 use Rattle.algebra.proofs.Powers.{pow-two}
-use Rattle.near.proofs.Bounds.{around-as}
+use Rattle.interval.proofs.Bounds.{around-as}
 use borrow.Author.Needs.{needs}
 use Rattle.millionths.specs.declared.Power.{Power}
 use Rattle.millionths.specs.Reached.{reachedBy}

@@ -9,11 +9,11 @@ use Rattle.cylinder.specs.Fraction.{whole, _//_}
 use Rattle.cylinder.specs.Search.{sumBounds}
 use Rattle.answer.specs.Answering.{judgementOf}
 use Rattle.record.specs.Answering.{boundsOf}
-use Rattle.record.proofs.Checks.{ranges, shell-within}
+use Rattle.record.proofs.Checks.{ranges, cylinder-within}
 use Rattle.record.proofs.Loads.{load-small, bounds-are}
 
-shell-requires : tie.Need-shell-requires
-shell-requires c κs = ranges (c .before .before .args .self) (c .before .before .pre .0) .thickness .most
+cylinder-requires : tie.Need-cylinder-requires
+cylinder-requires c κs = ranges (c .before .before .args .self) (c .before .before .pre .0) .thickness .most
 
 load-requires : tie.Need-load-requires
 load-requires c κs = search needs
@@ -25,20 +25,20 @@ load-requires-3 : tie.Need-load-requires-3
 load-requires-3 c κs = search needs
 
 of-sum-requires : tie.Need-of-sum-requires
-of-sum-requires c κs = let p = c .before .before .before .before .before .before .pre in let r = ranges (c .before .before .before .before .before .before .args .self) (p .0) in (rw (c .before .before .before .shell .ensures) (shell-within (c .before .before .before .before .before .before .args .self) p), load-small _ (c .before .before .load .ensures) (r .axial), load-small _ (c .before .load2 .ensures) (r .ring), load-small _ (c .load3 .ensures) (r .shear), lit≤ tt)
+of-sum-requires c κs = let p = c .before .before .before .before .before .before .pre in let r = ranges (c .before .before .before .before .before .before .args .self) (p .0) in (rw (c .before .before .before .cylinder .ensures) (cylinder-within (c .before .before .before .before .before .before .args .self) p), load-small _ (c .before .before .load .ensures) (r .axial), load-small _ (c .before .load2 .ensures) (r .ring), load-small _ (c .load3 .ensures) (r .shear), lit≤ tt)
 
 by-bounds-requires : tie.Need-by-bounds-requires
 by-bounds-requires c κs = search needs
 
 returns : tie.Need-returns
 unfolding boundsOf
-returns c = let b = c .before .of-sum .ensures in c .by-bounds .ensures ∙ bounds-are _ _ _ _ _ _ _ _ _ _ (c .before .before .before .before .before .shell .ensures) (c .before .before .before .before .load .ensures) (c .before .before .before .load2 .ensures) (c .before .before .load3 .ensures) (b .0) (b .1)
+returns c = let b = c .before .of-sum .ensures in c .by-bounds .ensures ∙ bounds-are _ _ _ _ _ _ _ _ _ _ (c .before .before .before .before .before .cylinder .ensures) (c .before .before .before .before .load .ensures) (c .before .before .before .load2 .ensures) (c .before .before .load3 .ensures) (b .0) (b .1)
 
 pub judgement-spec : {M : Type 1} → statement M
 judgement-spec =
     tie.close
     (tie.spec
-    shell-requires
+    cylinder-requires
     load-requires
     load-requires-2
     load-requires-3
