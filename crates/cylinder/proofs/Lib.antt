@@ -5,8 +5,6 @@ pub mod Search
 -- what the verdicts mean; what document 01 says of the definitions; sums from outside
 pub mod Verdict
 pub mod Paper
-pub mod Jumps
-pub mod Single
 pub mod Outside
 -- The definitions in whole numbers: the same tests of slenderness, the same curves and terms
 pub mod Agree
