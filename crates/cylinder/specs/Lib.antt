@@ -1,4 +1,4 @@
--- To be believed, beside document 01: Fraction, Number, Ideal, Resistance, Exact, Sum.
+-- To be believed, beside docs/SCOPE.md: Fraction, Number, Ideal, Resistance, Exact, Sum.
 pub mod Fraction
 pub mod Number
 pub mod Ideal
