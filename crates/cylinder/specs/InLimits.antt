@@ -1,5 +1,5 @@
 -- What the search asks of a shell: the limits of SCOPE 2, as a shell has them.
--- Nobody has to believe this: `shell-within` (record's proofs/Checks.antt) has it of every record that breaks no check.
+-- Nobody has to believe this: `cylinder-within` (record's proofs/Checks.antt) has it of every record that breaks no check.
 use Prim.Native.Nat.{_*_, _≤_}
 use Rattle.cylinder.specs.declared.Cylinder.{Cylinder}
 
