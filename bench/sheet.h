@@ -1,4 +1,4 @@
-/* A whole sheet with the sum in doubles (double.h, to be included first): reading, the checks of document 01, the listing. */
+/* A whole sheet with the sum in doubles (double.h, to be included first): reading, the checks of SCOPE 10, the listing. */
 #include <stddef.h>
 #include <stdio.h>
 #include <string.h>

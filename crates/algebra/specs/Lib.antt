@@ -1,4 +1,4 @@
--- To be believed, beside document 01: Choice.
+-- To be believed, beside docs/SCOPE.md: Choice.
 pub mod Choice
 -- Nobody has to believe these: tests and searches that proofs compute with. proofs/ says what a passed test and a search give, of plain numbers.
 pub mod Bisection

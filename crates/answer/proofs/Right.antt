@@ -23,7 +23,7 @@ module _ (ks : List Check) (Claim : Judgement → Type 0) where
       go (inl (n, (f, e))) = rw e (refused n f)
       go (inr (all, e)) = rw e (judged j all (claims all) v)
 
-  -- L and U are the only free part of an answer: a refusal is the same in every right answer, and so is the verdict for given L and U
+  -- SCOPE 6.6: a refusal is the same in every right answer, and so is the verdict for given L and U
   pub same-refusal : (n : ℕ) (b : Answer) → RightBy ks Claim (Refused n) → RightBy ks Claim b → b ≡ Refused n
   same-refusal n _ (refused _ f) (refused m g) = ap Refused (first-once ks m n g f)
   same-refusal n _ (refused _ f) (judged j all c v) = absurd (broken-passed ks n f all)

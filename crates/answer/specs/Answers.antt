@@ -1,4 +1,4 @@
--- Document 01, "The sum and what exact means": the verdict by L and U, and the number of an answer that the call from C returns.
+-- SCOPE 6.5 and 13.2: the verdict by L and U, and the number of an answer that the call from C returns.
 use Prim.Native.Nat.{ℕ, _+_, _*_}
 use lib.Dec.{leb, ltb}
 use Rattle.algebra.specs.Choice.{pick}

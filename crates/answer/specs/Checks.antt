@@ -1,5 +1,5 @@
--- Document 01, "Turned-back sheets and records": checks in the order in which they are made. The first check broken is first by its place in
--- the list, not by its number, since a later check may have a place before an earlier one.
+-- SCOPE 10 and 11.1: checks in the order in which they are made. The first check broken is first by its place in the list, not by its number,
+-- since a later check may have a place before an earlier one.
 use Prim.Native.Nat.{ℕ}
 use mathlib.Core.Path.{_≡_}
 use mathlib.Core.Bool.{Bool, true, false}

@@ -1,4 +1,4 @@
--- To be believed, beside document 01: Answers, Checks, Right.
+-- To be believed, beside docs/SCOPE.md: Answers, Checks, Right.
 pub mod Answers
 pub mod Checks
 pub mod Right

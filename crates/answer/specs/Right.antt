@@ -1,5 +1,5 @@
--- What document 01 says of an answer, for checks in their order and for a claim about judgements: it is refused by the first check that is
--- broken; or no check is broken, the claim holds of the judgement, and its verdict is that of its L and U.
+-- What is laid down of an answer (SCOPE 6.5, 9.5 and 13.2), for checks in their order and for a claim about judgements: it is refused by the
+-- first check that is broken; or no check is broken, the claim holds of the judgement, and its verdict is that of its L and U.
 use Prim.Native.Nat.{ℕ}
 use mathlib.Core.Path.{_≡_}
 use mathlib.Core.List.{List}

@@ -1,4 +1,4 @@
-// The call from C.
+// The call from C (SCOPE 13).
 ghost use mathlib.Core.Path.{_≡_};
 ghost use Rattle.answer.specs.Answers.{answerNumber};
 ghost use Rattle.answer.specs.Right.{NumberOfRight};

@@ -18,7 +18,7 @@ use Rattle.algebra.proofs.Powers.{pow-two, pow-three, pow-four, pow-six}
 use Rattle.cylinder.proofs.Like.{Like, leb-like, self, again, times, per, plus, minus, power, at-most}
 use Rattle.cylinder.proofs.Limits.{Sound, eta-pos}
 
--- the paper's number and the tests in whole numbers answer alike
+-- the number of Resistance and the tests in whole numbers answer alike
 pub record Agree (S : Number) (c : Cut) : Type 0 where
   pub reaches : (p q : ℕ) → S .reaches (p // q) ≡ c .reaches p q
   pub within : (p q : ℕ) → S .within (p // q) ≡ c .within p q

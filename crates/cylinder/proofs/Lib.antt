@@ -2,7 +2,7 @@
 -- L and U of `sumBounds` are right (sum-bounds, sum-bounds-within); whoever places a slenderness or a term by another way has found the same (place-is, most-is)
 pub mod SumBounds
 pub mod Search
--- what the verdicts mean; what document 01 says of the definitions; sums from outside
+-- what the verdicts mean; what SCOPE says of the definitions; sums from outside
 pub mod Verdict
 pub mod Paper
 pub mod Outside

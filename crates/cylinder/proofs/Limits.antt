@@ -26,7 +26,7 @@ pub record Sound (s : Cylinder) : Type 0 where
   pub not-thick : s .wall ≤ 10 * s .radius
   pub not-short : s .radius ≤ 20 * s .length
 
--- a shell within the limits of document 01 is sound
+-- a shell within the limits of SCOPE 2 is sound
 pub sound : (s : Cylinder) → InLimits s → Sound s
 sound s w =
     record {

@@ -1,4 +1,4 @@
--- Ten shells against an outside calculation, from the text of document 01 in decimals of 60 digits: L and U stand around its sums.
+-- Ten shells against an outside calculation, from SCOPE 3 to 5 in decimals of 60 digits: L and U stand around its sums.
 use Prim.Native.Nat.{ℕ, _+_}
 use mathlib.Core.Bool.{Bool, true, _&&_}
 use mathlib.Core.List.{List, [], _∷_}

@@ -1,4 +1,4 @@
--- What document 01 says of the definitions, beside the bounds: each slenderness is a number, no curve falls to 0 in its branch,
+-- What SCOPE 5.5 says of the definitions, beside the bounds: each slenderness is a number, no curve falls to 0 in its branch,
 -- and between the branch limits the resistance does not rise as the slenderness grows.
 use mathlib.Core.Path.{_≡_, refl, sym, ap, _∙_}
 use mathlib.Core.Bool.{Bool, true, false}

@@ -52,7 +52,7 @@ module _ {Over : ℕ → ℕ → Type 0} {L U : ℕ} (e : Encloses Over L U) whe
       at-most-up Over down U 10000 10002 10000 (lit< tt) (lit< tt) (omega arith) (e .at-most (omega arith)),
     )
 
-    -- the band that document 01 allows, at the width that it allows
+    -- the band of SCOPE 9.13, at the width of SCOPE 6.4
     pub open-band : U ≤ L + 100 → 10000 < U → L ≤ 10000 → AtLeast Over 99 100 × AtMost Over 101 100
     open-band width lt le = (
       at-least-down Over L 10000 99 100 (lit< tt) (omega arith) (e .at-least),

@@ -1,5 +1,5 @@
--- Document 01, "The sum and what exact means": what is said of an exact sum, whatever its terms are. A sum is given by what it exceeds:
--- by the predicate "over x/y".
+-- SCOPE 5.6, 5.7 and 6.1 to 6.4: what is said of an exact sum, whatever its terms are. A sum is given by what it exceeds: by the predicate
+-- "over x/y".
 use Prim.Native.Nat.{ℕ, _+_, _*_, _<_, _≤_}
 
 -- it is at most x/y if it is not over x/y
@@ -17,7 +17,7 @@ pub record Encloses (Exceeds : ℕ → ℕ → Type 0) (L U : ℕ) : Type 0 wher
   pub L-most : L ≤ 20000
   pub U-most : U ≤ 20000
 
--- and how far apart they are: document 01 allows 100, and 2 are kept (decision 26)
+-- and how far apart they are: SCOPE 6.4 allows 100, and 2 are kept (decision 26)
 abbrev pub Close : ℕ → ℕ → Type 0
 Close L U = U ≤ L + 2
 

@@ -1,4 +1,4 @@
--- Document 01, "Ideal stresses": DIN 18800-4, section 4.2. Stresses in N/mm².
+-- SCOPE 3: DIN 18800-4, section 4.2. Stresses in N/mm².
 use mathlib.Core.Bool.{Bool}
 use lib.Dec.{eqb}
 use Rattle.cylinder.specs.declared.Cylinder.{Cylinder}
@@ -74,7 +74,7 @@ ringShort s = l/r s ↑ 2 atMost (hundredths 1_63 ⊗ Cφ s) ↑ 2 ⊗ r/t s
 abbrev pub idealRingShort : Cylinder → Number
 idealRingShort s = timesRoot (hundredths 0_92 ⊗ Cφ s ⊗ E s ⊗ r/l s ⊗ t/r s) (t/r s)
 
--- (36): E (t/r)² (0.275 + 2.03 (Cφ/((l/r) √(t/r)))⁴); the fourth power of √(t/r) is (t/r)². Decision 1: 003 prints √(r/t).
+-- (36): E (t/r)² (0.275 + 2.03 (Cφ/((l/r) √(t/r)))⁴); the fourth power of √(t/r) is (t/r)². Decision 1: the standard prints √(r/t).
 abbrev pub idealRingLong : Cylinder → Number
 idealRingLong s = exactly (E s ⊗ t/r s ↑ 2 ⊗ (thousandths 0_275 ⊕ hundredths 2_03 ⊗ (Cφ s ↑ 4 ⊘ (l/r s ↑ 4 ⊗ t/r s ↑ 2))))
 
@@ -89,7 +89,7 @@ shearShort s = l/r s ↑ 2 atMost tenths 8_7 ↑ 2 ⊗ r/t s
 
 -- (39), (40): 0.75 Cτ E (r/l)^0.5 (t/r)^1.25 with Cτ² = 1 + 42 (r/l)³ (t/r)^1.5.
 -- The square is 0.75² Cτ² E² (r/l) (t/r)² √(t/r), which is 0.75² E² (r/l) (t/r)² times 42 (r/l)³ (t/r)² + 1 √(t/r).
--- Decision 2: 003 prescribes Cτ = 1 and permits (40).
+-- Decision 2: the standard prescribes Cτ = 1 and permits (40).
 abbrev pub idealShearShortSquare : Cylinder → Number
 idealShearShortSquare s =
     scaled (hundredths 0_75 ↑ 2 ⊗ E s ↑ 2 ⊗ r/l s ⊗ t/r s ↑ 2) (plusRoot (whole 42 ⊗ r/l s ↑ 3 ⊗ t/r s ↑ 2) (whole 1) (t/r s))

@@ -1,9 +1,9 @@
--- What the search asks of a shell: document 01's limits, as a shell has them.
--- Nobody has to believe this: `shell-within` (record's proofs/Checks.antt) has it of every record that breaks no check.
+-- What the search asks of a shell: the limits of SCOPE 2, as a shell has them.
+-- Nobody has to believe this: `cylinder-within` (record's proofs/Checks.antt) has it of every record that breaks no check.
 use Prim.Native.Nat.{_*_, _≤_}
 use Rattle.cylinder.specs.declared.Cylinder.{Cylinder}
 
--- The wall is twice t in hundredths of a mm. By document 01 it is 200 at least; a wall that is short by some hundredths may be down to 150.
+-- The wall is twice t in hundredths of a mm. By SCOPE 2.2 it is 200 at least; a wall that is short by some hundredths may be down to 150.
 pub record InLimits (s : Cylinder) : Type 0 where
   pub radius-least : 100 ≤ s .radius
   pub radius-most : s .radius ≤ 50000

@@ -1,11 +1,11 @@
--- To be believed, beside document 01: Fraction, Number, Ideal, Resistance, Exact, Sum.
+-- To be believed, beside docs/SCOPE.md: Fraction, Number, Ideal, Resistance, Exact, Sum.
 pub mod Fraction
 pub mod Number
 pub mod Ideal
 pub mod Resistance
 pub mod Exact
 pub mod Sum
--- Nobody has to believe it, what the search asks of a shell: `shell-within` (record's proofs/Checks.antt) has it of every record that breaks no check.
+-- Nobody has to believe it, what the search asks of a shell: `cylinder-within` (record's proofs/Checks.antt) has it of every record that breaks no check.
 pub mod InLimits
 -- Nobody has to believe these, the definitions in whole numbers, to compute with: proofs/Agree.antt and proofs/Curves.antt have that they are the same.
 pub mod Cut

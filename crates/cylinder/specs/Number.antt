@@ -1,4 +1,4 @@
--- A number that need not be a fraction is known by the fractions that it reaches (is at least) and those that it is within (is at most).
+-- SCOPE 5.3: a number that need not be a fraction is known by the fractions that it reaches (is at least) and those that it is within (is at most).
 use mathlib.Core.Bool.{Bool, _&&_, _||_}
 use Rattle.cylinder.specs.Fraction.{Fraction, _⊖_, _⊗_, _⊘_, _↑_, _atMost_}
 

@@ -1,4 +1,4 @@
--- Document 01, "Slenderness, reduction, partial factor": DIN 18800-4, elements 202 to 206 and 305.
+-- SCOPE 4: DIN 18800-4, elements 202 to 206 and 305.
 -- The slenderness S is a number. The curves are worked in fractions: in given branches, at a fraction g.
 use Prim.Native.Nat.{max}
 use mathlib.Core.Bool.{Bool}
@@ -109,6 +109,6 @@ axialR s br g = reducedκ2 s br g ⊗ fy s ⊘ γ2 br g
 abbrev pub ringR : Cylinder → Branch1 → Fraction → Fraction
 ringR s br g = reducedκ1 s br g ⊗ fy s ⊘ γ1
 
--- (6), (11): the square, that of κ fy/√3 over the factor. Decision 11: 003 prints κ = fy/√3.
+-- (6), (11): the square, that of κ fy/√3 over the factor. Decision 11: the standard prints κ = fy/√3.
 abbrev pub shearRSquare : Cylinder → Branch1 → Fraction → Fraction
 shearRSquare s br g = reducedκ1 s br g ↑ 2 ⊗ (fy s ↑ 2 ⊘ whole 3) ⊘ γ1 ↑ 2

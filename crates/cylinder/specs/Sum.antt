@@ -1,5 +1,5 @@
--- Document 01, "The sum and what exact means": DIN 18800-4, element 426, condition (50). The single checks (14) to (16), which
--- 003 asks for too, follow from a sum of at most 1 (crate standard_laws). Stresses are fractions of kN/m².
+-- SCOPE 5.1, 5.5 and 5.6: DIN 18800-4, element 426, condition (50). The single checks (14) to (16), which the standard asks for
+-- too, follow from a sum of at most 1 (crate standard_laws). Stresses are fractions of kN/m².
 use Prim.Native.Nat.{ℕ, _<_}
 use mathlib.Core.Bool.{Bool, true}
 use mathlib.Core.Path.{_≡_}

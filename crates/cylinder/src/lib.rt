@@ -1,7 +1,7 @@
 // An unstiffened circular cylinder of constant wall, as DIN 18800-4 needs it. No code: specs/ says what its buckling check
 // is, and proofs/ what bounds of it are right.
 
-// Whole numbers, by document 01, "The record", save for the wall.
+// Whole numbers, by SCOPE 2, save for the wall.
 pub struct Cylinder {
     // radius of the middle surface, mm
     pub radius: u64,

@@ -1,4 +1,4 @@
--- Document 01, "The sheet": the listing of answers, a line for each and the total line.
+-- SCOPE 8, 9.8 and 9.9: the listing of answers, a line for each and the total line.
 use Prim.Native.Nat.{ℕ, _+_}
 use mathlib.Core.Bool.{Bool, true, false}
 use mathlib.Core.List.{List, [], _∷_, _++_}
@@ -26,7 +26,7 @@ abbrev pub said : Answer → List ℕ
 said (Judged j) = ascii " " ++ verdictWord (j .verdict) ++ ascii ")"
 said (Refused n) = ascii " refused " ++ decimal n ++ ascii ")"
 
--- "(k holds), (k fails), (k open) or (k refused N) for line k"
+-- SCOPE 8.1: the line for the answer a to line k
 unfoldable pub entry : ℕ → Answer → List ℕ
 entry k a = ascii "(" ++ decimal k ++ said a
 
@@ -51,7 +51,7 @@ unfoldable pub count : (Answer → Bool) → List Answer → ℕ
 count p [] = 0
 count p (a ∷ answers) = pick (p a) 1 0 + count p answers
 
--- "lines is n; holds, fails, open and refused are how many of the n answers are so"
+-- SCOPE 9.9: how many answers there are, and how many of each kind
 abbrev pub counts : List Answer → Counts
 counts answers =
     record {
@@ -69,14 +69,14 @@ noCounts = record { lines = 0; holds = 0; fails = 0; opens = 0; refused = 0 }
 abbrev pub spaced : ℕ → List ℕ
 spaced n = ascii " " ++ decimal n
 
--- "(total lines holds fails open refused) with the five counts"
+-- SCOPE 8.2: the total line
 unfoldable pub total : Counts → List ℕ
 total c =
     ascii "(total" ++ spaced (c .lines) ++ spaced (c .holds) ++ spaced (c .fails) ++ spaced (c .opens) ++ spaced (c .refused) ++ ascii ")"
 
 -- ---- the listing
 
--- "Each listing line ends with a newline"
+-- SCOPE 8.3: a line with its newline
 abbrev pub ended : List ℕ → List ℕ
 ended line = line ++ ascii "\n"
 
@@ -84,6 +84,6 @@ unfoldable pub joined : List (List ℕ) → List ℕ
 joined [] = []
 joined (line ∷ lines) = ended line ++ joined lines
 
--- "The listing is the line for answer 1, then 2, up to n, then the total line, and nothing else"
+-- SCOPE 9.8: a line for each answer in order, and the total line
 unfoldable pub listingOf : List Answer → List ℕ
 listingOf answers = joined (entries 1 answers) ++ ended (total (counts answers))

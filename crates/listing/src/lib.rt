@@ -1,4 +1,4 @@
-// The listing of document 01, and the counts of its answers.
+// The listing of SCOPE 8, and the counts of its answers.
 use answer::Answer;
 use answer::Verdict;
 ghost use mathlib.Core.Path.{_≡_};

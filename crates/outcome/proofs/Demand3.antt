@@ -1,4 +1,4 @@
--- Demand 3 of document 01, proved of `outcome`, and so, by its contract, of `run`.
+-- Demand 3 (SCOPE 9.3), proved of `outcome`, and so, by its contract, of `run`.
 -- Assumes nothing.
 use mathlib.Core.Path.{_≡_, refl, sym, ap, _∙_, subst}
 use Prim.Native.Nat.{ℕ, _+_, _*_, _≤_, _<_, zero-le}
@@ -170,7 +170,7 @@ demand-3 sheet out = demand-by sheet out _ _ (run-right sheet out)
 pub demand-of : (sheet out out′ : List ℕ) (r : Outcome) → _≡_ {A = Outcome × List ℕ} (r, out′) (outcome sheet out) → Demand3 answerTo sheet out r out′
 demand-of sheet out out′ r e = subst (λ (q : Outcome × List ℕ). Demand3 answerTo sheet out (q .0) (q .1)) (sym e) (demand-3 sheet out)
 
--- ---- "demand 1 allows no refusal but under its condition in the table"
+-- ---- SCOPE 9.1: a refusal where its condition is met, and only there
 
 module _ (sheet out : List ℕ) where
   -- 1, 2 or 3 is returned exactly if it is the first check broken
@@ -190,7 +190,7 @@ module _ (sheet out : List ℕ) where
           absurd (omega (arith, ap (λ (q : Outcome). q .refusal) r, turned-positive sheet (length out) m f))
       by (listed all l o) e = all
 
-  -- "listing untouched": a sheet that is turned back leaves the buffer as it was
+  -- SCOPE 10.1 to 10.3: a sheet that is turned back leaves the buffer as it was
   pub untouched : (outcome sheet out .0 .refusal ≡ 0 → ⊥) → outcome sheet out .1 ≡ out
   untouched e = by (run-right sheet out)
     where

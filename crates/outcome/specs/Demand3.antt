@@ -1,4 +1,4 @@
--- Demand 3 of document 01 as one claim about a run: of the rule by which lines are answered, the sheet's bytes, the listing buffer at entry, what
+-- Demand 3 (SCOPE 9.3 to 9.13) as one claim about a run: of the rule by which lines are answered, the sheet's bytes, the listing buffer at entry, what
 -- is returned, and the buffer at exit. A rule is a function of a line's bytes alone; the contract of `run` names one for all sheets.
 use Prim.Native.Nat.{ℕ, _+_, _≤_, _<_}
 use mathlib.Core.Path.{_≡_}
@@ -37,7 +37,7 @@ pub record ReadBack (rule : List ℕ → Answer) (sheet out : List ℕ) (r : Out
 
 pub record Demand3 (rule : List ℕ → Answer) (sheet out : List ℕ) (r : Outcome) (out′ : List ℕ) : Type 0 where
   pub run : Run rule sheet out r out′
-  -- the answer to a line is the one that document 01 lays down, and its verdict says so of the exact sum
+  -- the answer to a line is right, and its verdict says so of the exact sum
   pub right : (l : List ℕ) → RightLine l (rule l)
   pub verdict-means : (l : List ℕ) (j : Judgement) → rule l ≡ Judged j → MeansLine l (j .verdict)
   pub read-back : r .refusal ≡ 0 → ReadBack rule sheet out r out′

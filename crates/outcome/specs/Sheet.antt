@@ -1,5 +1,5 @@
--- Document 01, "The sheet" and "Turned-back sheets and records": the answers to the lines of a sheet by a rule, their listing, and what a sheet
--- that is turned back gives.
+-- SCOPE 9.4 to 9.9, 10.1 to 10.3, 11.3 and 11.4: the answers to the lines of a sheet by a rule, their listing, and what a sheet that is turned
+-- back gives.
 use Prim.Native.Nat.{ℕ, _+_, _*_}
 use mathlib.Core.List.{List, [], _∷_, map}
 use lib.ListN.{length, getD}
@@ -45,6 +45,6 @@ sheetChecks sheet room = sizeCheck sheet ∷ linesCheck sheet ∷ roomCheck shee
 abbrev pub turnedBack : ℕ → Outcome
 turnedBack n = record { refusal = n; counts = noCounts; length = 0 }
 
--- of a sheet that is listed: 0, the five counts and the listing's length
+-- of a sheet that is listed: 0, how many answers there are of each kind, and the length of the listing
 abbrev pub listedBy : (List ℕ → Answer) → List ℕ → Outcome
 listedBy rule sheet = record { refusal = 0; counts = counts (answersBy rule sheet); length = length (listingBy rule sheet) }

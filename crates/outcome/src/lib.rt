@@ -1,4 +1,4 @@
-// What a run of document 01 gives: the outcome of a sheet, and the check that turns a sheet back.
+// What a run gives: the outcome of a sheet, and the check that turns a sheet back.
 use lines::after_line;
 use listing::Counts;
 ghost use mathlib.Core.Path.{_≡_};
@@ -7,7 +7,7 @@ ghost use Rattle.text.specs.Bytes.{lines};
 ghost use Rattle.answer.specs.Answering.{refusalBy};
 ghost use Rattle.outcome.specs.Sheet.{sheetChecks};
 
-// What a run returns: the refusal's number or 0, the five counts, and the listing's length in bytes.
+// What a run returns: the number of the refusal or 0, the counts of answers, and how many bytes the listing has.
 pub struct Outcome {
     pub refusal: u64,
     pub counts: Counts,

@@ -81,7 +81,7 @@ answer-four l = (λ e. right-four l (answerTo l) (answer-right l) e, λ h. sym (
 pub answer-five : (l : List ℕ) → (answerTo l ≡ Refused 5) ↔ ((length l ≤ 128) × ((c : Record) → Spells l c → ⊥))
 answer-five l = (λ e. right-five l (answerTo l) (answer-right l) e, λ h. sym (answer-other l (h .0) (formOf l) refl (other-text l .1 (h .1))))
 
--- "A blank line is a line, refused by 5"
+-- SCOPE 7.3: a line without bytes is refused by 5
 pub blank-five : answerTo [] ≡ Refused 5
 blank-five = answer-five [] .1 (lit≤ tt, λ c is. blank-spells c is)
 

@@ -1,4 +1,4 @@
--- L and U are the only free part of the answer to a line: a refusal is the same in every right answer, and so is the verdict for given L and U.
+-- SCOPE 6.6, of a line: a refusal is the same in every right answer, and so is the verdict for given L and U.
 -- Assumes nothing.
 use mathlib.Core.Path.{_≡_, refl, sym, _∙_, subst}
 use mathlib.Core.List.{List}

@@ -1,4 +1,4 @@
--- Document 01, "Turned-back sheets and records": what it says of the answer to a line.
+-- SCOPE 9.5, 9.12, 9.13, 10.4 and 10.5: what is laid down of the answer to a line.
 use Prim.Native.Nat.{ℕ, _≤_, _<_}
 use mathlib.Core.List.{List}
 use lib.ListN.{length}

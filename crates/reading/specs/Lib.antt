@@ -1,4 +1,4 @@
--- To be believed, beside document 01: Text, Answers.
+-- To be believed, beside docs/SCOPE.md: Text, Answers.
 pub mod Text
 pub mod Answers
 -- Nobody has to believe these, how the program reads and answers a line: `form-right` (proofs/Inverse.antt) says what `formOf` gives, and

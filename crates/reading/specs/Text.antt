@@ -1,4 +1,4 @@
--- Document 01, "The sheet": the line of a record.
+-- SCOPE 7.4 to 7.6: the line of a record.
 use Prim.Native.Nat.{ℕ, _<_}
 use mathlib.Core.Path.{_≡_}
 use mathlib.Core.List.{List, _++_}

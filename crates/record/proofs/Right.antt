@@ -1,5 +1,5 @@
 -- The program's answer to a record is Right: refused by the first check that is broken and never otherwise, else judged with bounds that hold.
--- What follows of right answers: the verdicts, the numbers of refusals, and that L and U are the only free part. Assumes nothing.
+-- What follows of right answers: what the verdicts say, and which refusals there are. Assumes nothing.
 use mathlib.Core.Path.{_≡_, refl, sym, ap, _∙_}
 use mathlib.Core.List.{[], _∷_}
 use Prim.Native.Nat.{ℕ, _+_, _≤_, _<_}
@@ -41,7 +41,7 @@ unfolding recordAnswer
 record-right c = Right.answer-by-right (checks c) (Bounds c) (judgementOfRecord c) refl (bounds-right c)
 
 module _ (c : Record) where
-  -- a record that is passed as numbers meets 6 to 10 only
+  -- SCOPE 11.6: no other refusal than 6 to 10
   pub meets : (n : ℕ) → Right c (Refused n) → Among n (6 ∷ 7 ∷ 8 ∷ 9 ∷ 10 ∷ [])
   meets n r = Right.refused-among (checks c) (Bounds c) n r
 
@@ -70,7 +70,7 @@ module _ (c : Record) (j : Judgement) where
       let (over, under) = verdict-open (j .low) (j .high) (sym v ∙ h) in
       Verdict.open-only (b .encloses) (Verdict.sum-over-down _ _ _) (b .close) over under
 
-  -- and so from 0.99 to 1.01, the band that document 01 allows
+  -- and so from 0.99 to 1.01, the band of SCOPE 9.13
   pub open-band : Right c (Judged j) → j .verdict ≡ Open → AtLeast (RecordOver c) 99 100 × AtMost (RecordOver c) 101 100
   open-band (judged _ all b v) h =
       let (over, under) = verdict-open (j .low) (j .high) (sym v ∙ h) in

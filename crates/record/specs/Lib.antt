@@ -1,4 +1,4 @@
--- To be believed, beside document 01: Limits, Right, Trial.
+-- To be believed, beside docs/SCOPE.md: Limits, Right, Trial.
 pub mod Limits
 pub mod Right
 pub mod Trial

@@ -1,4 +1,4 @@
--- Document 01, "The record" and "Turned-back sheets and records": the limits of a record, and its checks in their order.
+-- SCOPE 2 and 10.6 to 10.10: the limits of a record, and its checks in their order.
 use Prim.Native.Nat.{ℕ, _*_}
 use mathlib.Core.Bool.{Bool, _&&_, _||_}
 use mathlib.Core.List.{List, [], _∷_}

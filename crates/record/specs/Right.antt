@@ -1,4 +1,4 @@
--- What document 01 says of the answer to a record.
+-- SCOPE 6, 9.12 and 9.13: what is laid down of the answer to a record.
 use Prim.Native.Nat.{ℕ}
 use Rattle.cylinder.specs.Fraction.{whole}
 use Rattle.cylinder.specs.Exact.{AtMost, AtLeast, Encloses, Close}

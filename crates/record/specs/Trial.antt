@@ -1,4 +1,4 @@
--- The rows marked P in document 01, "Trial shells", together: for each, what the exact sum is, and that every right answer has the verdict.
+-- The rows marked P in SCOPE 15, together: for each, what the exact sum is, and that every right answer has the verdict.
 use Prim.Native.Nat.{ℕ}
 use mathlib.Core.Path.{_≡_}
 use Rattle.answer.specs.declared.Verdict.{Verdict}

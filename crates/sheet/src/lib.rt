@@ -1,4 +1,4 @@
-// The sheet run of document 01: an answer for each line of a sheet, and the listing of the answers.
+// The sheet run: an answer for each line of a sheet, and the listing of the answers.
 use answer::Answer;
 use entry::put_entry;
 use lines::after_line;

@@ -1,4 +1,4 @@
--- "The curves jump slightly at S = 0.25, 0.4, 1.2 and 2. At 1.2 κ1 jumps upward": the formulas of the branches on either side, both worked at the limit.
+-- SCOPE 4.8, the steps of the curves at S = 0.25, 0.4, 1.2 (upward) and 2: the formulas of the branches on either side, both worked at the limit.
 use mathlib.Core.Path.{_≡_, refl}
 use mathlib.Core.Bool.{true, false}
 use Prim.Native.Nat.{_*_, _≤_}

@@ -1,4 +1,4 @@
--- "It includes the single checks, since a sum of at most 1 keeps each ratio at most 1": where the sum of three stresses is at most x/y, so is that of
+-- SCOPE 5.2, the checks of each stress alone: where the sum of three stresses is at most x/y, so is that of
 -- each alone; and where it is at most 1, so is the ratio of each stress to its resistance.
 use mathlib.Core.Path.{_≡_, refl}
 use mathlib.Core.Bool.{Bool, true}
