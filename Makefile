@@ -30,12 +30,12 @@ program: $(program)
 $(program): $(sources)
 	@mkdir -p target
 	@command -v rt >target/check.log || { echo 'make: rt, the Rattle toolchain, is not on the PATH' >&2; exit 1; }
-	@echo 'Proving and building the program: some minutes the first time, seconds if little has changed (target/check.log).'
+	@echo 'Proving and building the program: about 5 minutes the first time, less if little has changed (target/check.log).'
 	rt check shellsheet >target/check.log 2>&1 || { tail -n 40 target/check.log; exit 1; }
 	@touch -c $@
 
 $(archive): $(sources) | $(program)
-	@echo 'Proving and building the archive for C: about a minute (target/staticlib.log).'
+	@echo 'Proving and building the archive for C: under a minute (target/staticlib.log).'
 	rt staticlib capi >target/staticlib.log 2>&1 || { rm -f $@; tail -n 40 target/staticlib.log; exit 1; }
 	@touch -c $@
 
@@ -52,21 +52,20 @@ fill = sed -e 's|@PREFIX@|$(prefix)|' -e 's|@LIBDIR@|$(patsubst $(prefix)/%,$${p
 
 # The flags that pkg-config prints are split at spaces by every shell, so a path with one would install and not compile.
 export PREFIX LIBDIR DESTDIR
-define fit
-@bad() { echo "make: $$1 is '$$2': $$3" >&2; exit 1; }; \
-for v in PREFIX LIBDIR; do \
-    eval "p=\$$$$v"; \
-    case $$p in \
-    *[[:space:]\'\"\\\$$\`\|\&\;\<\>\(\)\*\?\[\]\{\}\#%~]*) bad $$v "$$p" 'a space, a quote or a sign of the shell cannot stand in it';; \
-    '') bad $$v "$$p" 'it is empty; the root is /';; \
-    esac; \
-done; \
-case $$LIBDIR in /*) ;; *) bad LIBDIR "$$LIBDIR" 'it does not start with /';; esac; \
-case $$DESTDIR in *\'*) bad DESTDIR "$$DESTDIR" 'a quote cannot stand in it';; esac
-endef
+paths:
+	@bad() { echo "make: $$1 is '$$2': $$3" >&2; exit 1; }; \
+	for v in PREFIX LIBDIR; do \
+	    eval "p=\$$$$v"; \
+	    case $$p in \
+	    *[[:space:]\'\"\\\$$\`\|\&\;\<\>\(\)\*\?\[\]\{\}\#%~]*) bad $$v "$$p" 'a space, a quote or a sign of the shell cannot stand in it';; \
+	    '') bad $$v "$$p" 'it is empty; the root is /';; \
+	    esac; \
+	done; \
+	case $$LIBDIR in /*) ;; *) bad LIBDIR "$$LIBDIR" 'it does not start with /';; esac; \
+	case $$DESTDIR in *\'*) bad DESTDIR "$$DESTDIR" 'a quote cannot stand in it';; esac
 
-install: $(program) $(archive)
-	$(fit)
+install: paths $(program) $(archive)
+	@install -d '$(DESTDIR)/'
 	@new=; for d in $(folders); do \
 	    while [ ! -d '$(DESTDIR)'"$$d" ]; do new="$$new $$d"; d=$$(dirname "$$d"); done; \
 	done; \
@@ -80,8 +79,7 @@ install: $(program) $(archive)
 	$(fill) man/shell_judge.3 >'$(DESTDIR)$(prefix)/share/man/man3/shell_judge.3'
 	@chmod a+r $(foreach f,$(files),'$(DESTDIR)$(f)')
 
-uninstall:
-	$(fit)
+uninstall: paths
 	rm -f $(foreach f,$(files),'$(DESTDIR)$(f)')
 	@[ ! -f $(made) ] || { list=$$(LC_ALL=C sort -ru $(made)); rm $(made); \
 	    for d in $$list; do rmdir '$(DESTDIR)'"$$d" 2>/dev/null || true; done; }
@@ -100,4 +98,4 @@ clean:
 help:
 	@sed -n '/^#/!q; s/^#$$//; s/^# //; p' Makefile; echo 'This is version $(VERSION).'
 
-.PHONY: all program install uninstall check clean help
+.PHONY: all program paths install uninstall check clean help
