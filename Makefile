@@ -1,10 +1,10 @@
 # What can be made:
 #
-#     make                    prove and build the program and the archive for C; minutes the first time
+#     make                    prove and build the program and the archive for C; 4 to 5 minutes the first time, on two cores
 #     make program            the program alone: target/bin/shellsheet
 #     make install            install what is built into PREFIX (/usr/local); needs no rt once it is built
 #     make uninstall          remove what install put there, with the same PREFIX, LIBDIR and DESTDIR
-#     make check              run every test of tests/ on what is built; .ci/run is the whole gate, which proves all again
+#     make check              run every test of tests/ on what is built, a minute; .ci/run is the whole gate, which proves all again
 #     make clean              remove target/, so all that was proved and built
 #     make help               this list
 #
@@ -30,12 +30,12 @@ program: $(program)
 $(program): $(sources)
 	@mkdir -p target
 	@command -v rt >target/check.log || { echo 'make: rt, the Rattle toolchain, is not on the PATH' >&2; exit 1; }
-	@echo 'Proving and building the program: about 5 minutes the first time, less if little has changed (target/check.log).'
+	@echo 'Proving and building the program: 4 to 5 minutes the first time, on two cores. To follow it: tail -f target/check.log'
 	rt check shellsheet >target/check.log 2>&1 || { tail -n 40 target/check.log; exit 1; }
 	@touch -c $@
 
 $(archive): $(sources) | $(program)
-	@echo 'Proving and building the archive for C: under a minute (target/staticlib.log).'
+	@echo 'Proving and building the archive for C: under a minute. To follow it: tail -f target/staticlib.log'
 	rt staticlib capi >target/staticlib.log 2>&1 || { rm -f $@; tail -n 40 target/staticlib.log; exit 1; }
 	@touch -c $@
 
