@@ -44,6 +44,11 @@ static size_t taken(const struct work *w) {
     return (size_t)(w->frame - (uintptr_t)(w->stack + i));
 }
 
+static int broken(const char *what) {
+    fprintf(stderr, "threads: %s\n", what);
+    return 2;
+}
+
 int main(void) {
     struct work works[THREADS];
     pthread_t threads[THREADS];
@@ -55,19 +60,19 @@ int main(void) {
         if (i < 10) break;
         wanted[count] = judge(records[count]);
     }
-    if (!count || !feof(stdin)) return fprintf(stderr, "threads: not the records that were expected\n"), 2;
-    if (pthread_barrier_init(&start, NULL, THREADS) || pthread_attr_init(&attr)) return perror("threads"), 2;
+    if (!count || !feof(stdin)) return broken("not lines of ten numbers, or too many");
+    if (pthread_barrier_init(&start, NULL, THREADS) || pthread_attr_init(&attr)) return broken("no barrier");
     for (size_t k = 0; k < THREADS; k++) {
         void *stack = mmap(NULL, STACK, PROT_READ | PROT_WRITE, MAP_PRIVATE | MAP_ANONYMOUS, -1, 0);
-        if (stack == MAP_FAILED) return perror("threads: a stack"), 2;
+        if (stack == MAP_FAILED) return broken("no stack");
         memset(stack, PAINT, STACK);
         works[k].first = k * count / THREADS;
         works[k].wrong = 0;
         works[k].stack = (unsigned char *)stack;
-        if (pthread_attr_setstack(&attr, stack, STACK) || pthread_create(&threads[k], &attr, run, &works[k])) return perror("threads: a thread"), 2;
+        if (pthread_attr_setstack(&attr, stack, STACK) || pthread_create(&threads[k], &attr, run, &works[k])) return broken("a thread does not start");
     }
     for (size_t k = 0; k < THREADS; k++) {
-        if (pthread_join(threads[k], NULL)) return perror("threads: a thread"), 2;
+        if (pthread_join(threads[k], NULL)) return broken("a thread does not end");
         wrong += works[k].wrong;
         if (taken(&works[k]) > most) most = taken(&works[k]);
     }
