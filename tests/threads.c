@@ -9,7 +9,7 @@
 #include <sys/mman.h>
 #include "../include/shellsheet.h"
 
-enum { THREADS = 8, ROUNDS = 5, MOST = 4096, STACK = 1 << 18, PAINT = 0xA5 };
+enum { THREADS = 8, ROUNDS = 100, MOST = 4096, STACK = 1 << 18, PAINT = 0xA5 };
 
 static uint64_t records[MOST][10], wanted[MOST];
 static size_t count;
