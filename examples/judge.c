@@ -1,5 +1,5 @@
-/* Judges shells from C. Ten numbers as arguments are one shell; without arguments, each line of standard input is one.
-   Compile: cc judge.c $(pkg-config --cflags --libs shellsheet) */
+/* Judges shells from C. Ten numbers as arguments are one shell; without arguments, each line of standard input is one. Stresses are in
+   kN/m². Compile: cc -Wconversion judge.c $(pkg-config --cflags --libs shellsheet) */
 #include <errno.h>
 #include <shellsheet.h>
 #include <stdio.h>
@@ -23,25 +23,13 @@ static int number(const char *word, uint64_t *v) {
     return 1;
 }
 
-static const char *why(unsigned refusal) {
-    switch (refusal) {
-    case SHELL_REFUSED_RANGE: return "radius, wall, length, modulus, yield stress or a stress is outside its range";
-    case SHELL_REFUSED_EDGES: return "the edges are not 11, 12 or 22";
-    case SHELL_REFUSED_WALL: return "r/t is not from 20 to 2,500";
-    case SHELL_REFUSED_LENGTH: return "the length is below r/20 or over 50 r";
-    case SHELL_REFUSED_IMPERFECTION: return "the imperfection is over 2,000";
-    default: return "unknown";
-    }
-}
-
 static void show(uint64_t answer) {
-    static const char *const words[] = {"refused", "holds", "fails", "open"};
     unsigned refusal = shell_refusal(answer), low = shell_low(answer), high = shell_high(answer);
     if (refusal) {
-        printf("refused %u: %s\n", refusal, why(refusal));
+        printf("refused %u: %s\n", refusal, shell_reason(answer));
         return;
     }
-    printf("%s: L %u, U %u, the sum is ", words[shell_verdict(answer)], low, high);
+    printf("%s: L %u, U %u, the sum is ", shell_reason(answer), low, high);
     if (high < 20000)
         printf("from %u.%04u to %u.%04u\n", low / 10000, low % 10000, high / 10000, high % 10000);
     else

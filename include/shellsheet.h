@@ -1,15 +1,29 @@
-/* Judges one steel shell, an unstiffened circular cylinder, to DIN 18800-4:2008-11. Link with -lshellsheet (pkg-config shellsheet). */
+/* Judges one steel shell, an unstiffened circular cylinder, to DIN 18800-4:2008-11. Link with -lshellsheet (pkg-config shellsheet).
+
+   UNITS: e and fy are in N/mm², but the three stresses are in kN/m²: 1 N/mm² is 1,000 kN/m². A stress passed in N/mm² is
+   1,000 times too small, no check can notice it, and the shell holds. Round stresses up and walls down.
+
+   WHOLE NUMBERS: C cuts a double that is passed here without a word. Compile with -Wconversion, which warns of it, and round
+   by hand: a stress of x N/mm² is (uint64_t)ceil(1000 * x), a wall of x mm (uint64_t)floor(100 * x). A negative whole number,
+   such as a tension, arrives as one above 2^63 and is refused; a negative double has no defined value in C. */
 #ifndef SHELLSHEET_H
 #define SHELLSHEET_H
 
 #include <stdint.h>
+
+/* The version, as two numbers and as text: "MAJOR.MINOR". It stands here alone: make reads it from these two lines. */
+#define SHELLSHEET_VERSION_MAJOR 0
+#define SHELLSHEET_VERSION_MINOR 1
+#define SHELLSHEET_VERSION SHELLSHEET_TEXT(SHELLSHEET_VERSION_MAJOR, SHELLSHEET_VERSION_MINOR)
+#define SHELLSHEET_TEXT(major, minor) SHELLSHEET_QUOTE(major) "." SHELLSHEET_QUOTE(minor)
+#define SHELLSHEET_QUOTE(number) #number
 
 #ifdef __cplusplus
 extern "C" {
 #endif
 
 /* The answer to one record: a refusal, 6 to 10, or 10,000,000,000 × verdict + 100,000 × L + U. Any ten numbers may be passed; a
-   number outside its limits is answered by a refusal. It changes no memory of the caller's and may be called by many threads at once.
+   number outside its limits is answered by a refusal.
 
        r              radius of the middle surface, mm            100 to 50,000
        t              wall, hundredths of a mm                    100 to 10,000
@@ -18,9 +32,12 @@ extern "C" {
        fy             yield stress, N/mm²                         100 to 700
        edges          11, 12 or 22, a digit for each edge: 1 held radially and axially, 2 held radially and free axially
        a              worst imperfection, thousandths of what is permitted: up to 2,000, below 1,000 counts as 1,000
-       sx, sphi, tau  axial, ring and shear stress, kN/m², compression positive: up to 700,000
+       sx, sphi, tau  axial, ring and shear stress, kN/m² (not N/mm²), compression positive: up to 700,000
 
-   Further, r/t is from 20 to 2,500, and l from r/20 to 50 r. */
+   Further, r/t is from 20 to 2,500, and l from r/20 to 50 r.
+
+   It allocates nothing, keeps no state, changes no memory of the caller's, and may be called by many threads at once. It takes
+   less than 16 KB of the calling thread's stack. */
 uint64_t shell_judge(uint64_t r, uint64_t t, uint64_t l, uint64_t e, uint64_t fy, uint64_t edges, uint64_t a,
                      uint64_t sx, uint64_t sphi, uint64_t tau);
 
@@ -57,6 +74,25 @@ static inline unsigned shell_low(uint64_t answer) {
 /* U: if U is below 20,000, the exact sum is at most U/10,000. At most 20,000, and at most L + 2. */
 static inline unsigned shell_high(uint64_t answer) {
     return answer < 10000000000u ? 0 : (unsigned)(answer % 100000u);
+}
+
+/* An answer in words: "holds", "fails", "open", or why the record was refused. Constant text in English, never null; for a number
+   that is no answer of shell_judge's, "not an answer". */
+static inline const char *shell_reason(uint64_t answer) {
+    switch (answer) {
+    case SHELL_REFUSED_RANGE: return "radius, wall, length, modulus, yield stress or a stress is outside its range";
+    case SHELL_REFUSED_EDGES: return "the edges are not 11, 12 or 22";
+    case SHELL_REFUSED_WALL: return "r/t is not from 20 to 2,500";
+    case SHELL_REFUSED_LENGTH: return "the length is below r/20 or over 50 r";
+    case SHELL_REFUSED_IMPERFECTION: return "the imperfection is over 2,000";
+    default: break;
+    }
+    switch (shell_verdict(answer)) {
+    case SHELL_HOLDS: return "holds";
+    case SHELL_FAILS: return "fails";
+    case SHELL_OPEN: return "open";
+    default: return "not an answer";
+    }
 }
 
 #ifdef __cplusplus

@@ -1,0 +1,81 @@
+/* Judges the records on standard input, lines of ten numbers, by one thread and then by 8 at once, each on a stack of its own that was
+   painted before. The answers have to be equal. Prints how far below its caller's frame shell_judge wrote: the stack it takes. */
+#define _GNU_SOURCE
+#include <inttypes.h>
+#include <pthread.h>
+#include <stdio.h>
+#include <stdlib.h>
+#include <string.h>
+#include <sys/mman.h>
+#include "../include/shellsheet.h"
+
+enum { THREADS = 8, ROUNDS = 100, MOST = 4096, STACK = 1 << 18, PAINT = 0xA5 };
+
+static uint64_t records[MOST][10], wanted[MOST];
+static size_t count;
+static pthread_barrier_t start;
+
+struct work {
+    size_t first;              /* the record it starts with: each thread is at another one */
+    size_t wrong;
+    uintptr_t frame;           /* where the frame of shell_judge's caller ends */
+    unsigned char *stack;
+};
+
+static uint64_t judge(const uint64_t *v) {
+    return shell_judge(v[0], v[1], v[2], v[3], v[4], v[5], v[6], v[7], v[8], v[9]);
+}
+
+static void *run(void *given) {
+    struct work *w = (struct work *)given;
+    pthread_barrier_wait(&start);
+    for (size_t k = 0; k < ROUNDS * count; k++) {
+        size_t i = (w->first + k) % count;
+        w->wrong += judge(records[i]) != wanted[i];
+    }
+    w->frame = (uintptr_t)__builtin_frame_address(0);
+    return NULL;
+}
+
+/* the bytes between the caller's frame and the lowest byte that has lost its paint */
+static size_t taken(const struct work *w) {
+    size_t i = 0;
+    while (i < STACK && w->stack[i] == PAINT) i++;
+    return (size_t)(w->frame - (uintptr_t)(w->stack + i));
+}
+
+static int broken(const char *what) {
+    fprintf(stderr, "threads: %s\n", what);
+    return 2;
+}
+
+int main(void) {
+    struct work works[THREADS];
+    pthread_t threads[THREADS];
+    pthread_attr_t attr;
+    size_t wrong = 0, most = 0;
+    for (;; count++) {
+        int i = 0;
+        while (i < 10 && count < MOST && scanf("%" SCNu64, &records[count][i]) == 1) i++;
+        if (i < 10) break;
+        wanted[count] = judge(records[count]);
+    }
+    if (!count || !feof(stdin)) return broken("not lines of ten numbers, or too many");
+    if (pthread_barrier_init(&start, NULL, THREADS) || pthread_attr_init(&attr)) return broken("no barrier");
+    for (size_t k = 0; k < THREADS; k++) {
+        void *stack = mmap(NULL, STACK, PROT_READ | PROT_WRITE, MAP_PRIVATE | MAP_ANONYMOUS, -1, 0);
+        if (stack == MAP_FAILED) return broken("no stack");
+        memset(stack, PAINT, STACK);
+        works[k].first = k * count / THREADS;
+        works[k].wrong = 0;
+        works[k].stack = (unsigned char *)stack;
+        if (pthread_attr_setstack(&attr, stack, STACK) || pthread_create(&threads[k], &attr, run, &works[k])) return broken("a thread does not start");
+    }
+    for (size_t k = 0; k < THREADS; k++) {
+        if (pthread_join(threads[k], NULL)) return broken("a thread does not end");
+        wrong += works[k].wrong;
+        if (taken(&works[k]) > most) most = taken(&works[k]);
+    }
+    printf("%d threads, %zu records %d times each, %zu answers unlike those of one thread, %zu bytes of stack\n", THREADS, count, ROUNDS, wrong, most);
+    return wrong != 0;
+}
