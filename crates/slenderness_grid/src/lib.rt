@@ -196,7 +196,10 @@ fn rough_root(s: Cylinder) -> u64
 fn shear_guess(s: Cylinder, t: Terms) -> u64
     requires { ⌜ InLimits s ⌝ }
 {
-    let x = interval::plus(lifted(t.c), interval::times(t.e, interval::of(rough_root(s))));
+    let x = interval::plus(
+        lifted(t.c),
+        interval::times(t.e, interval::of(rough_root(s))),
+    );
     guess::guess_from(
         interval_root::leading(x),
         interval_root::leading(lifted(t.d)),
@@ -208,7 +211,10 @@ fn shear_guess(s: Cylinder, t: Terms) -> u64
 fn bent_guess(s: Cylinder, t: Terms) -> u64
     requires { ⌜ InLimits s ⌝ }
 {
-    let x = interval::minus(lifted(t.c), interval::times(t.e, interval::of(rough_root(s))));
+    let x = interval::minus(
+        lifted(t.c),
+        interval::times(t.e, interval::of(rough_root(s))),
+    );
     guess::guess_from(
         interval_root::leading(x),
         interval_root::leading(lifted(t.d)),
