@@ -25,7 +25,7 @@ ghost use Rattle.outcome.specs.declared.Outcome.{Outcome};
 const LINE_MOST: usize = 128;
 
 // The answer to a line: refused by 4 if it is too long, by 5 if it is not the form, else the answer to its record.
-fn answer(line: &[u8]) -> Answer
+pub fn answer(line: &[u8]) -> Answer
     ensures { λ r. ⌜ r ≡ answerTo (now (line .entry)) ⌝ }
 {
     if LINE_MOST < line.len() {

@@ -5,10 +5,10 @@ use Prim.Native.Nat.{ℕ, _+_, _-_, _≤_}
 use native.Mathlib.Omega.{arith}
 use mathlib.Core.List.{List}
 use lib.ListN.{length, take, drop, length-take, length-drop}
-use Rattle.shellsheet.specs.declared.Step.{Step}
-use Rattle.shellsheet.specs.declared.Step.the-variants.{Moved}
-use Rattle.shellsheet.specs.declared.Input.{Input}
-use Rattle.shellsheet.specs.declared.Input.the-variants.{Bytes}
+use Rattle.shellsheet.specs.declared.stream.Step.{Step}
+use Rattle.shellsheet.specs.declared.stream.Step.the-variants.{Moved}
+use Rattle.shellsheet.specs.declared.stream.Input.{Input}
+use Rattle.shellsheet.specs.declared.stream.Input.the-variants.{Bytes}
 use Rattle.shellsheet.specs.Streams.{StepWithin, InputWithin}
 
 pub moved-within : (buf : List ℕ) (done most n : ℕ) (s : Step) → most ≡ length (take (length buf - done) (drop done buf)) → done ≤ length buf → StepWithin most s → s ≡ Moved n

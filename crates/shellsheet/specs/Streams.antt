@@ -2,10 +2,10 @@
 -- Nobody has to believe this: only contracts of this program speak of it.
 use Prim.Native.Nat.{ℕ, _≤_}
 use mathlib.Core.Path.{_≡_}
-use Rattle.shellsheet.specs.declared.Step.{Step}
-use Rattle.shellsheet.specs.declared.Step.the-variants.{Moved, Ended, Again, Failed}
-use Rattle.shellsheet.specs.declared.Input.{Input}
-use Rattle.shellsheet.specs.declared.Input.the-variants.{Bytes, Broken}
+use Rattle.shellsheet.specs.declared.stream.Step.{Step}
+use Rattle.shellsheet.specs.declared.stream.Step.the-variants.{Moved, Ended, Again, Failed}
+use Rattle.shellsheet.specs.declared.stream.Input.{Input}
+use Rattle.shellsheet.specs.declared.stream.Input.the-variants.{Bytes, Broken}
 
 -- a count never passes the buffer's end
 abbrev pub StepWithin : ℕ → Step → Type 0

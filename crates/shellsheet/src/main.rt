@@ -1,143 +1,145 @@
-// Reads a sheet from standard input and prints its listing, or (batch refused N).
+// Lists sheets, or says their answers in words: shellsheet [--explain] [--] [FILE..]. Without a file the sheet is standard input.
+mod checks;
+mod explain;
+mod form;
+mod help;
+mod options;
+mod say;
+mod scan;
+mod stream;
+
+use explain::say_answers;
+use help::say_help;
+use help::say_version;
+use libc::STDERR_FILENO;
 use libc::STDIN_FILENO;
-use libc::STDOUT_FILENO;
-ghost use lib.ListN.{length};
-ghost use Rattle.shellsheet.specs.Streams.{StepWithin, InputWithin};
+use options::Options;
+use options::argument;
+use options::is_option;
+use options::same;
+use say::say;
+use say::say_number;
+use stream::Input;
+use stream::read_sheet;
 
-// What one read or write did: so many bytes moved, nothing left to move, interrupted by a signal, or failed.
-enum Step {
-    Moved(usize),
-    Ended,
-    Again,
-    Failed,
+// Writes "(batch refused N)" and a newline.
+fn say_refusal(ok: bool, n: u64) -> bool {
+    let ok = say(ok, b"(batch refused ");
+    let ok = say_number(ok, n);
+    say(ok, b")\n")
 }
 
-// What standard input held: so many bytes, or a read failed.
-enum Input {
-    Bytes(usize),
-    Broken,
+// Writes the listing of a sheet.
+fn say_listing(ok: bool, sheet: &[u8]) -> bool {
+    let mut listing = [0u8; 24616];
+    let outcome = sheet::run(sheet, &mut listing);
+    let refusal = outcome.refusal;
+    let length = outcome.length;
+    if refusal == 0 {
+        return say(ok, &listing[..length]);
+    }
+    say_refusal(ok, refusal)
 }
 
-// More reads or writes than 65,536 bytes take: the others are for those that a signal interrupts.
-const TURNS: u64 = 1000000000;
-
-// One read into `rest`.
-fn read_step(rest: &mut [u8]) -> Step
-    ensures { λ r. ⌜ StepWithin (length (now (rest .exit))) r ⌝ }
-{
-    if rest.len() == 0 {
-        return Step::Ended;
+// Writes the line that stands above a listing, if there are several.
+fn say_heading(name: &[u8], o: Options) -> bool {
+    if o.sheets < 2 {
+        return true;
     }
-    let got = libc::read(STDIN_FILENO, rest);
-    if got < 0 {
-        if os::errno() == libc::EINTR {
-            return Step::Again;
-        }
-        return Step::Failed;
-    }
-    let n = io::count(got, rest);
-    if n == 0 {
-        return Step::Ended;
-    }
-    Step::Moved(n)
+    let ok = say(true, b"==> ");
+    let ok = say(ok, name);
+    say(ok, b" <==\n")
 }
 
-// Reads standard input until it ends or `buf` is full.
-fn read_sheet(buf: &mut [u8]) -> Input
-    ensures { λ r. ⌜ InputWithin (length (now (buf .exit))) r ⌝ }
-{
-    let mut done: usize = 0;
-    let mut turns = TURNS;
-    while 0 < turns {
-        turns -= 1;
-        match read_step(&mut buf[done..]) {
-            Step::Moved(n) => {
-                done += n;
-            }
-            Step::Ended => {
-                return Input::Bytes(done);
-            }
-            Step::Again => {}
-            Step::Failed => {
-                return Input::Broken;
-            }
-        }
+// Writes what there is to say of a sheet.
+fn say_sheet(name: &[u8], sheet: &[u8], o: Options) -> bool {
+    let ok = say_heading(name, o);
+    if o.explain {
+        return say_answers(ok, sheet);
     }
-    Input::Broken
+    say_listing(ok, sheet)
 }
 
-// One write of the bytes of `rest`.
-fn write_step(rest: &[u8]) -> Step
-    ensures { λ r. ⌜ StepWithin (length (now (rest .entry))) r ⌝ }
-{
-    if rest.len() == 0 {
-        return Step::Ended;
-    }
-    let put = libc::write(STDOUT_FILENO, rest);
-    if put < 0 {
-        if os::errno() == libc::EINTR {
-            return Step::Again;
-        }
-        return Step::Failed;
-    }
-    let n = io::count(put, rest);
-    if n == 0 {
-        return Step::Failed;
-    }
-    Step::Moved(n)
+// Says on standard error why the sheet of this name cannot be read.
+fn complain(name: &[u8]) {
+    io::write_all(STDERR_FILENO, b"shellsheet: ");
+    os::fail(name);
 }
 
-// Writes `buf` to standard output, and answers whether all of it was written.
-fn write_out(buf: &[u8]) -> bool {
-    let mut done: usize = 0;
-    let mut turns = TURNS;
-    while 0 < turns {
-        turns -= 1;
-        match write_step(&buf[done..]) {
-            Step::Moved(n) => {
-                done += n;
-            }
-            Step::Ended => {
-                return true;
-            }
-            Step::Again => {}
-            Step::Failed => {
-                return false;
-            }
+// Lists the sheet that is open as `fd`. This and what follows answer whether all was written.
+fn list(fd: i32, name: &[u8], o: Options) -> bool {
+    let mut sheet = [0u8; 65536];
+    let Input::Bytes(n) = read_sheet(fd, &mut sheet) else {
+        complain(name);
+        return true;
+    };
+    say_sheet(name, &sheet[..n], o)
+}
+
+// Lists the sheet of this name.
+fn list_named(name: &[u8], o: Options) -> bool {
+    if same(name, b"-") {
+        return list(STDIN_FILENO, b"standard input", o);
+    }
+    let fd = os::open_read(name);
+    if fd < 0 {
+        complain(name);
+        return true;
+    }
+    let ok = list(fd, name, o);
+    libc::close(fd);
+    ok
+}
+
+// Lists the sheet that argument i names, if it names one.
+fn list_argument(i: usize, o: Options) -> bool {
+    let end = o.end;
+    if i == end {
+        return true;
+    }
+    let mut name = io::buffer();
+    let n = argument(i, &mut name);
+    if i < end {
+        if is_option(&name[..n]) {
+            return true;
         }
     }
-    false
+    list_named(&name[..n], o)
 }
 
-// Writes "(batch refused N)" and a newline, and answers whether all of it was written.
-fn write_refusal(n: u64) -> bool {
-    let mut number = [0u8; 20];
-    let k = io::decimal(n, &mut number);
-    if !write_out(b"(batch refused ") {
-        return false;
+// Lists the sheets that the arguments name, up to the first write that fails.
+fn list_all(o: Options) -> bool {
+    let count = os::arg_count();
+    let mut i: usize = 1;
+    while i < count {
+        if !list_argument(i, o) {
+            return false;
+        }
+        i += 1;
     }
-    if !write_out(&number[..k]) {
-        return false;
+    true
+}
+
+// Does what the arguments ask for.
+fn run(o: Options) -> bool {
+    if o.unknown {
+        return true;
     }
-    write_out(b")\n")
+    if o.help {
+        return say_help();
+    }
+    if o.version {
+        return say_version();
+    }
+    if o.sheets == 0 {
+        return list(STDIN_FILENO, b"standard input", o);
+    }
+    list_all(o)
 }
 
 fn main() {
-    let mut sheet = [0u8; 65536];
-    let mut listing = [0u8; 24616];
-    let Input::Bytes(n) = read_sheet(&mut sheet) else {
-        os::fail(b"shellsheet: standard input");
-        return;
-    };
-    let outcome = sheet::run(&sheet[..n], &mut listing);
-    let refusal = outcome.refusal;
-    let length = outcome.length;
-    let written = if refusal == 0 {
-        write_out(&listing[..length])
-    } else {
-        write_refusal(refusal)
-    };
-    if !written {
+    let o = Options::read();
+    if !run(o) {
         os::fail(b"shellsheet: standard output");
     }
 }

@@ -4,8 +4,8 @@ use lib.ListN.{length}
 use borrow.Author.Needs.{needs}
 use mathlib.Core.Path.{refl}
 use Rattle.shellsheet.proofs.Moves.{moved-within}
-use Rattle.shellsheet.proofs.write_out.Statement.{statement}
-use Rattle.shellsheet.proofs.write_out.Tie as tie
+use Rattle.shellsheet.proofs.stream.write_out.Statement.{statement}
+use Rattle.shellsheet.proofs.stream.write_out.Tie as tie
 
 abbrev Inv-loop : tie.InvT-loop
 Inv-loop buf done₀ turns₀ done turns = done ≤ length buf

@@ -4,14 +4,14 @@ use Prim.Native.Nat.{_≤_}
 use lib.ListN.{length}
 use borrow.Author.Needs.{needs}
 use Rattle.shellsheet.proofs.Moves.{moved-within}
-use Rattle.shellsheet.proofs.read_sheet.Statement.{statement}
-use Rattle.shellsheet.proofs.read_sheet.Tie as tie
+use Rattle.shellsheet.proofs.stream.read_sheet.Statement.{statement}
+use Rattle.shellsheet.proofs.stream.read_sheet.Tie as tie
 
 abbrev Inv-loop : tie.InvT-loop
-Inv-loop buf₀ done₀ turns₀ buf done turns = (length buf ≡ length buf₀) × (done ≤ length buf₀)
+Inv-loop fd buf₀ done₀ turns₀ buf done turns = (length buf ≡ length buf₀) × (done ≤ length buf₀)
 
 abbrev μ-loop : tie.MeasureT-loop
-μ-loop buf₀ done₀ turns₀ buf done turns = turns
+μ-loop fd buf₀ done₀ turns₀ buf done turns = turns
 
 loop-holds : tie.Need-loop-holds Inv-loop μ-loop
 loop-holds c = search needs
@@ -35,13 +35,13 @@ enum-known-n : tie.Need-enum-known-n Inv-loop μ-loop
 enum-known-n c = search needs
 
 add-done : tie.Need-add-done Inv-loop μ-loop
-add-done c = omega (arith, moved-within (c .before .before .before .before .before .before .before .before .loop .buf) (c .before .before .before .before .before .before .before .before .loop .done) _ _ _ (c .before .before .before .before .before .read-step .kept .0) (omega arith) (c .before .before .before .before .before .read-step .ensures) (c .before .n .given .1))
+add-done c = omega (arith, moved-within (c .before .before .before .before .before .before .before .before .loop .buf) (c .before .before .before .before .before .before .before .before .loop .done) _ _ _ (c .before .before .before .before .before .read-step .kept .1 .0) (omega arith) (c .before .before .before .before .before .read-step .ensures) (c .before .n .given .1))
 
 loop-less : tie.Need-loop-less Inv-loop μ-loop
 loop-less c = search needs
 
 loop-again : tie.Need-loop-again Inv-loop μ-loop
-loop-again c = (search needs, omega (arith, moved-within (c .before .before .before .before .before .before .before .before .loop .buf) (c .before .before .before .before .before .before .before .before .loop .done) _ _ _ (c .before .before .before .before .before .read-step .kept .0) (omega arith) (c .before .before .before .before .before .read-step .ensures) (c .before .n .given .1)))
+loop-again c = (search needs, omega (arith, moved-within (c .before .before .before .before .before .before .before .before .loop .buf) (c .before .before .before .before .before .before .before .before .loop .done) _ _ _ (c .before .before .before .before .before .read-step .kept .1 .0) (omega arith) (c .before .before .before .before .before .read-step .ensures) (c .before .n .given .1)))
 
 enum-told : tie.Need-enum-told Inv-loop μ-loop
 enum-told c = search needs

@@ -1,0 +1,157 @@
+// Refusals 6 to 10 in words: what broke the check.
+use crate::say::say;
+use crate::say::say_decimal;
+use crate::say::say_number;
+use record::Group;
+use record::Record;
+use record::Wall;
+ghost use Prim.Native.Nat.{_≤_};
+
+// A field that is outside its range; nothing of one that is not.
+fn say_range(ok: bool, name: &[u8], x: u64, low: u64, high: u64) -> bool {
+    if low <= x {
+        if x <= high {
+            return ok;
+        }
+    }
+    let ok = say(ok, b"; ");
+    let ok = say(ok, name);
+    let ok = say(ok, b" is ");
+    let ok = say_number(ok, x);
+    let ok = say(ok, b", not from ");
+    let ok = say_number(ok, low);
+    let ok = say(ok, b" to ");
+    say_number(ok, high)
+}
+
+fn say_dimensions(ok: bool, w: Wall) -> bool {
+    let ok = say_range(
+        ok,
+        b"r (mm)",
+        w.radius,
+        Record::RADIUS_LEAST,
+        Record::RADIUS_MOST,
+    );
+    let ok = say_range(
+        ok,
+        b"t (hundredths of a mm)",
+        w.thickness,
+        Record::THICKNESS_LEAST,
+        Record::THICKNESS_MOST,
+    );
+    say_range(
+        ok,
+        b"l (mm)",
+        w.length,
+        Record::LENGTH_LEAST,
+        Record::LENGTH_MOST,
+    )
+}
+
+fn say_material(ok: bool, w: Wall) -> bool {
+    let ok = say_range(
+        ok,
+        b"E (N/mm2)",
+        w.modulus,
+        Record::MODULUS_LEAST,
+        Record::MODULUS_MOST,
+    );
+    say_range(
+        ok,
+        b"fy (N/mm2)",
+        w.yield_stress,
+        Record::YIELD_LEAST,
+        Record::YIELD_MOST,
+    )
+}
+
+fn say_stresses(ok: bool, g: Group) -> bool {
+    let ok = say_range(ok, b"sx (kN/m2)", g.axial, 0, Record::STRESS_MOST);
+    let ok = say_range(ok, b"sphi (kN/m2)", g.ring, 0, Record::STRESS_MOST);
+    say_range(ok, b"tau (kN/m2)", g.shear, 0, Record::STRESS_MOST)
+}
+
+// 6: each field that is outside its range.
+fn say_ranges(ok: bool, w: Wall, g: Group) -> bool {
+    let ok = say(ok, b"out of range");
+    let ok = say_dimensions(ok, w);
+    let ok = say_material(ok, w);
+    say_stresses(ok, g)
+}
+
+// 7
+fn say_edges(ok: bool, edges: u64) -> bool {
+    let ok = say(ok, b"the edges are ");
+    let ok = say_number(ok, edges);
+    let ok = say(ok, b", not 11, 12 or 22");
+    if edges == 21 {
+        return say(ok, b"; 21 is written 12");
+    }
+    ok
+}
+
+// scale · x / y, cut to a whole number or, if `up`, raised to one; 0 where x or y is out of every range.
+fn ratio(scale: u64, x: u64, y: u64, up: bool) -> u64
+    requires { ⌜ scale ≤ 1000000 ⌝ }
+{
+    if 10000000 < x {
+        return 0;
+    }
+    if 10000000 < y {
+        return 0;
+    }
+    if y == 0 {
+        return 0;
+    }
+    let all = scale * x;
+    if up {
+        return (all + (y - 1)) / y;
+    }
+    all / y
+}
+
+// 8: r/t with both in mm, rounded away from its limits.
+fn say_wall_ratio(ok: bool, r: u64, t: u64) -> bool {
+    let ok = say(ok, b"r/t is ");
+    let low = ratio(1000000, r, t, false);
+    if low < 10000 * Record::THICKNESSES_LEAST {
+        let ok = say_decimal(ok, low);
+        return say(ok, b", below 20");
+    }
+    let ok = say_decimal(ok, ratio(1000000, r, t, true));
+    say(ok, b", over 2500")
+}
+
+// 9: l/r, rounded away from its limits.
+fn say_length_ratio(ok: bool, l: u64, r: u64) -> bool {
+    let ok = say(ok, b"l/r is ");
+    let low = ratio(10000, l, r, false);
+    if low < 500 {
+        let ok = say_decimal(ok, low);
+        return say(ok, b", below 0.05, that is 1/20");
+    }
+    let ok = say_decimal(ok, ratio(10000, l, r, true));
+    say(ok, b", over 50")
+}
+
+// 10
+fn say_imperfection(ok: bool, a: u64) -> bool {
+    let ok = say(ok, b"the imperfection a (thousandths) is ");
+    let ok = say_number(ok, a);
+    let ok = say(ok, b", over ");
+    say_number(ok, Record::IMPERFECTION_MOST)
+}
+
+// Why a record is refused by n.
+pub(crate) fn say_check(ok: bool, n: u64, c: Record) -> bool {
+    let w = c.wall;
+    let g = c.group;
+    match n {
+        6 => say_ranges(ok, w, g),
+        7 => say_edges(ok, w.edges),
+        8 => say_wall_ratio(ok, w.radius, w.thickness),
+        9 => say_length_ratio(ok, w.length, w.radius),
+        10 => say_imperfection(ok, w.imperfection),
+        _ => say(ok, b"it breaks a check that has no words"),
+    }
+}

@@ -1,0 +1,163 @@
+// --explain: the answers to a sheet in words. Each answer is that of `sheet::answer`, which the listing has too; the words decide nothing.
+use crate::checks::say_check;
+use crate::form::say_form;
+use crate::say::say;
+use crate::say::say_decimal;
+use crate::say::say_number;
+use answer::Answer;
+use answer::Judgement;
+use answer::Verdict;
+use lines::after_line;
+use lines::first_line;
+use listing::Counts;
+use reading::Form;
+use reading::read;
+use record::Group;
+
+// A bound of 2 or more is no upper bound: a sum over 2 has it too.
+const SUM_MOST: u64 = 20000;
+
+// Below so many kN/m², 1 N/mm², the stresses of a shell look as if they were typed in N/mm².
+const STRESS_LOW: u64 = 1000;
+
+// The sum by its bounds.
+fn say_sum(ok: bool, low: u64, high: u64) -> bool {
+    let ok = say(ok, b": the sum is ");
+    if SUM_MOST <= high {
+        let ok = say_decimal(ok, low);
+        return say(ok, b" or more");
+    }
+    if low == high {
+        return say_decimal(ok, low);
+    }
+    let ok = say(ok, b"from ");
+    let ok = say_decimal(ok, low);
+    let ok = say(ok, b" to ");
+    say_decimal(ok, high)
+}
+
+// Whether stresses look as if they were typed in N/mm²: not all are 0, and all are low.
+fn looks_mistaken(g: Group) -> bool {
+    if STRESS_LOW <= g.axial {
+        return false;
+    }
+    if STRESS_LOW <= g.ring {
+        return false;
+    }
+    if STRESS_LOW <= g.shear {
+        return false;
+    }
+    0 < g.axial + g.ring + g.shear
+}
+
+// The remark on units, where stresses look mistaken.
+fn say_units(ok: bool, line: &[u8]) -> bool {
+    let Form::Read(c) = read(line) else {
+        return ok;
+    };
+    let g = c.group;
+    if looks_mistaken(g) {
+        return say(
+            ok,
+            b"; all stresses are below 1 N/mm2, and 1 N/mm2 is 1000 kN/m2: are they in kN/m2?",
+        );
+    }
+    ok
+}
+
+// A verdict, with the sum.
+fn say_judged(ok: bool, j: Judgement, line: &[u8]) -> bool {
+    let verdict = j.verdict;
+    let ok = match verdict {
+        Verdict::Holds => say(ok, b" holds"),
+        Verdict::Fails => say(ok, b" fails"),
+        Verdict::Open => say(ok, b" is open"),
+    };
+    let ok = say_sum(ok, j.low, j.high);
+    say_units(ok, line)
+}
+
+// Why a line is refused by n.
+fn say_why(ok: bool, n: u64, line: &[u8]) -> bool {
+    if n == 4 {
+        let ok = say(ok, b"it has ");
+        let ok = say_number(ok, line.len() as u64);
+        return say(ok, b" bytes, over 128");
+    }
+    let Form::Read(c) = read(line) else {
+        return say_form(ok, line);
+    };
+    say_check(ok, n, c)
+}
+
+// A refusal, with what broke the check.
+fn say_refused(ok: bool, n: u64, line: &[u8]) -> bool {
+    let ok = say(ok, b" is refused by ");
+    let ok = say_number(ok, n);
+    let ok = say(ok, b": ");
+    say_why(ok, n, line)
+}
+
+// Line k of a sheet.
+fn say_line(ok: bool, k: u64, line: &[u8]) -> bool {
+    let ok = say(ok, b"line ");
+    let ok = say_number(ok, k);
+    let ok = match sheet::answer(line) {
+        Answer::Judged(j) => say_judged(ok, j, line),
+        Answer::Refused(n) => say_refused(ok, n, line),
+    };
+    say(ok, b"\n")
+}
+
+// The lines of a sheet.
+fn say_lines(ok: bool, sheet: &[u8]) -> bool {
+    let mut all = ok;
+    let mut rest = sheet;
+    let mut k: u64 = 0;
+    while 0 < rest.len() {
+        k += 1;
+        all = say_line(all, k, first_line(rest));
+        let next = after_line(rest);
+        rest = next;
+    }
+    all
+}
+
+// The counts of a sheet.
+fn say_total(ok: bool, c: Counts) -> bool {
+    let ok = say(ok, b"total: lines ");
+    let ok = say_number(ok, c.lines);
+    let ok = say(ok, b", holds ");
+    let ok = say_number(ok, c.holds);
+    let ok = say(ok, b", fails ");
+    let ok = say_number(ok, c.fails);
+    let ok = say(ok, b", open ");
+    let ok = say_number(ok, c.opens);
+    let ok = say(ok, b", refused ");
+    let ok = say_number(ok, c.refused);
+    say(ok, b"\n")
+}
+
+// Why a sheet is turned back with the number n.
+fn say_batch(ok: bool, n: u64) -> bool {
+    let ok = say(ok, b"the batch is refused by ");
+    let ok = say_number(ok, n);
+    match n {
+        1 => say(ok, b": the sheet has over 65535 bytes\n"),
+        2 => say(ok, b": the sheet has over 1024 lines\n"),
+        _ => say(ok, b"\n"),
+    }
+}
+
+// The answers to a sheet in words, and their total; or why the sheet is turned back.
+pub(crate) fn say_answers(ok: bool, sheet: &[u8]) -> bool {
+    let mut listing = [0u8; 24616];
+    let outcome = sheet::run(sheet, &mut listing);
+    let refusal = outcome.refusal;
+    let counts = outcome.counts;
+    if 0 < refusal {
+        return say_batch(ok, refusal);
+    }
+    let ok = say_lines(ok, sheet);
+    say_total(ok, counts)
+}

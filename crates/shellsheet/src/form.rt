@@ -1,0 +1,111 @@
+// Refusal 5 in words: the byte at which a line stops being of the form, and what was expected there.
+use crate::say::say;
+use crate::say::say_byte;
+use crate::say::say_number;
+use crate::scan::Stop;
+use crate::scan::is_digit;
+use crate::scan::is_number;
+use crate::scan::scan_line;
+
+// A place that is counted from 0, by its byte's number.
+fn say_place(ok: bool, at: usize) -> bool {
+    let ok = say(ok, b"byte ");
+    let ok = say_number(ok, std::num::wrapping_add_u64(at as u64, 1));
+    say(ok, b": ")
+}
+
+// The name of a number of the form.
+fn say_name(ok: bool, want: u8) -> bool {
+    match want {
+        b'R' => say(ok, b"r"),
+        b'T' => say(ok, b"t"),
+        b'L' => say(ok, b"l"),
+        b'E' => say(ok, b"E"),
+        b'Y' => say(ok, b"fy"),
+        b'D' => say(ok, b"edges"),
+        b'A' => say(ok, b"a"),
+        b'X' => say(ok, b"sx"),
+        b'P' => say(ok, b"sphi"),
+        _ => say(ok, b"tau"),
+    }
+}
+
+// What the form wants: a number by its name, or a byte.
+fn say_want(ok: bool, want: u8) -> bool {
+    if is_number(want) {
+        let ok = say(ok, b"a number for ");
+        return say_name(ok, want);
+    }
+    say_byte(ok, want)
+}
+
+// What a byte may tell that stands where the form wants another.
+fn say_hint(ok: bool, b: u8) -> bool {
+    match b {
+        b'-' => say(ok, b"; compression is positive, and tension is not covered"),
+        b'.' | b',' => say(ok, b"; numbers are whole"),
+        _ => ok,
+    }
+}
+
+// What stands at a place where the form wants something else.
+fn say_found(ok: bool, line: &[u8], at: usize) -> bool {
+    if line.len() <= at {
+        return say(ok, b"the line ends");
+    }
+    let b = line[at];
+    let ok = say_byte(ok, b);
+    let ok = say(ok, b" stands there");
+    say_hint(ok, b)
+}
+
+// Why the digits at a place are no number of the form; `first` is the first of them.
+fn say_digits(ok: bool, first: u8, want: u8) -> bool {
+    let ok = if first == 48 {
+        say(ok, b"a number without leading zeros")
+    } else {
+        say(ok, b"a number of at most 7 digits")
+    };
+    let ok = say(ok, b" was expected for ");
+    say_name(ok, want)
+}
+
+// What was expected at a place, and what stands there.
+fn say_expected(ok: bool, line: &[u8], at: usize, want: u8) -> bool {
+    let ok = say_place(ok, at);
+    if at < line.len() {
+        let first = line[at];
+        if is_digit(first) {
+            if is_number(want) {
+                return say_digits(ok, first, want);
+            }
+        }
+    }
+    let ok = say_want(ok, want);
+    let ok = say(ok, b" was expected, and ");
+    say_found(ok, line, at)
+}
+
+// What stands behind the form.
+fn say_behind(ok: bool, line: &[u8], at: usize) -> bool {
+    if line.len() <= at {
+        return say(
+            ok,
+            b"it is not of the form (shell r t l E fy edges a (stress sx sphi tau))",
+        );
+    }
+    let ok = say_place(ok, at);
+    let ok = say_byte(ok, line[at]);
+    say(ok, b" behind the last bracket")
+}
+
+// Why a line is refused by 5.
+pub(crate) fn say_form(ok: bool, line: &[u8]) -> bool {
+    if line.len() == 0 {
+        return say(ok, b"the line is empty");
+    }
+    match scan_line(line) {
+        Stop::Expected(at, want) => say_expected(ok, line, at, want),
+        Stop::Behind(at) => say_behind(ok, line, at),
+    }
+}

@@ -1,0 +1,92 @@
+// Where a line stops being of the form. It decides nothing: a line that it is asked about has been refused by 5.
+ghost use Prim.Native.Nat.{_≤_};
+
+// The first place of a line, counted from 0, that is not of the form.
+pub(crate) enum Stop {
+    // such a byte of the form, or number, was expected there
+    Expected(usize, u8),
+    // the form ends there
+    Behind(usize),
+}
+
+// Whether a byte of a form stands for a number.
+pub(crate) fn is_number(want: u8) -> bool {
+    if want < 65 {
+        return false;
+    }
+    want <= 90
+}
+
+// Whether a byte is a digit.
+pub(crate) fn is_digit(b: u8) -> bool {
+    if b < 48 {
+        return false;
+    }
+    b <= 57
+}
+
+// The place after the digits that stand at `at`.
+fn digits_end(line: &[u8], at: usize) -> usize
+    ensures { λ r. ⌜ at ≤ r ⌝ }
+{
+    let mut i = at;
+    while i < line.len() {
+        if !is_digit(line[i]) {
+            return i;
+        }
+        i += 1;
+    }
+    i
+}
+
+// The place after the number that stands at `at`, or `at` if none does: 1 to 7 digits without a leading zero.
+fn number_end(line: &[u8], at: usize) -> usize {
+    let end = digits_end(line, at);
+    let count = end - at;
+    if 7 < count {
+        return at;
+    }
+    if 1 < count {
+        if at < line.len() {
+            if line[at] == 48 {
+                return at;
+            }
+        }
+    }
+    end
+}
+
+// The place after what the form wants at `at`, or `at` if it does not stand there.
+fn item_end(line: &[u8], at: usize, want: u8) -> usize {
+    if line.len() <= at {
+        return at;
+    }
+    if is_number(want) {
+        return number_end(line, at);
+    }
+    if line[at] == want {
+        return at + 1;
+    }
+    at
+}
+
+// Where `line` stops being of `form`, byte by byte: a capital stands for a number, any other byte for itself.
+fn scan(line: &[u8], form: &[u8]) -> Stop {
+    let mut at: usize = 0;
+    let mut i = 0;
+    while i < form.len() {
+        let want = form[i];
+        let next = item_end(line, at, want);
+        if next == at {
+            return Stop::Expected(at, want);
+        }
+        at = next;
+        i += 1;
+    }
+    Stop::Behind(at)
+}
+
+// Where `line` stops being of the form: the whole grammar is here, and the names of its numbers in `say_name` of form.rt.
+pub(crate) fn scan_line(line: &[u8]) -> Stop {
+    scan(line, b"(shell R T L E Y D A (stress X P S))")
+}
