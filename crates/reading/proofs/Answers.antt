@@ -57,6 +57,9 @@ answer-right l = go (ltb 128 (length l)) refl
     go true e = rw e (too-long (ltb-true 128 (length l) e))
     go false e = rw e (by-form (ltb-false 128 (length l) e) (formOf l) (form-right l))
 
+pub right-of : (l : List ℕ) (a : Answer) → a ≡ answerTo l → RightLine l a
+right-of l a e = rw e (answer-right l)
+
 -- ---- and no other answer is
 
 -- a record is refused by no number below 6

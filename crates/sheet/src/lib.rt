@@ -15,6 +15,7 @@ ghost use mathlib.Core.List.{List};
 ghost use Prim.Native.Nat.{ℕ, _≤_};
 ghost use lib.ListN.{length};
 ghost use Rattle.text.specs.Slices.{put};
+ghost use Rattle.reading.specs.Answers.{RightLine};
 ghost use Rattle.reading.specs.Answering.{answerTo};
 ghost use Rattle.outcome.specs.Sheet.{turnedBack, listedBy};
 ghost use Rattle.outcome.specs.Demand3.{Demand3};
@@ -26,6 +27,7 @@ const LINE_MOST: usize = 128;
 
 // The answer to a line: refused by 4 if it is too long, by 5 if it is not the form, else the answer to its record.
 pub fn answer(line: &[u8]) -> Answer
+    ensures { λ r. ⌜ RightLine (now (line .entry)) r ⌝ }
     ensures { λ r. ⌜ r ≡ answerTo (now (line .entry)) ⌝ }
 {
     if LINE_MOST < line.len() {

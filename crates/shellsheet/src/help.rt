@@ -1,7 +1,7 @@
 // What --help and --version print.
 use crate::say::say;
 
-// The version, as the Makefile has it.
+// The version, as include/shellsheet.h has it.
 pub(crate) fn say_version() -> bool {
     say(true, b"shellsheet 0.1\n")
 }

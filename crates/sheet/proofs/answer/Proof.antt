@@ -2,10 +2,10 @@
 use borrow.Author.Needs.{needs}
 use Rattle.sheet.proofs.answer.Statement.{statement}
 use Rattle.sheet.proofs.answer.Tie as tie
-use Rattle.reading.proofs.Answers.{answer-long, answer-other, answer-read}
+use Rattle.reading.proofs.Answers.{answer-long, answer-other, answer-read, right-of}
 
 returns : tie.Need-returns
-returns c = answer-long _ (c .if1 .taken)
+returns c = let e = answer-long _ (c .if1 .taken) in (right-of _ _ e, e)
 
 read-requires : tie.Need-read-requires
 read-requires c κs = search needs
@@ -17,13 +17,13 @@ enum-told : tie.Need-enum-told
 enum-told c = search needs
 
 returns-2 : tie.Need-returns-2
-returns-2 c = answer-other _ (c .before .before .before .if1 .left) _ (c .before .before .read .ensures) (c .enum-told .given .1)
+returns-2 c = let e = answer-other _ (c .before .before .before .if1 .left) _ (c .before .before .read .ensures) (c .enum-told .given .1) in (right-of _ _ e, e)
 
 judge-requires : tie.Need-judge-requires
 judge-requires c κs = search needs
 
 returns-3 : tie.Need-returns-3
-returns-3 c = answer-read _ (c .before .before .before .before .before .before .before .if1 .left) _ (c .before .before .before .before .before .before .read .ensures) _ (c .before .before .before .before .c .given .1) _ (c .judge .ensures .0)
+returns-3 c = let e = answer-read _ (c .before .before .before .before .before .before .before .if1 .left) _ (c .before .before .before .before .before .before .read .ensures) _ (c .before .before .before .before .c .given .1) _ (c .judge .ensures .0) in (right-of _ _ e, e)
 
 pub answer-spec : {M : Type 1} → statement M
 answer-spec =

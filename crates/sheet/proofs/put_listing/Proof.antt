@@ -24,7 +24,7 @@ abbrev μ-loop : tie.MeasureT-loop
 -- the answer of a turn is the first of those that are left
 told : (c : tie.After-answer Inv-loop μ-loop)
     → answers (c .before .before .before .loop .rest .now) ≡ c .answer .result ∷ answers (after isNewline (c .before .before .before .loop .rest .now))
-told c = answers-next _ _ _ _ (c .before .before .loop-test .taken) (c .before .first-line .ensures) (c .answer .ensures) refl
+told c = answers-next _ _ _ _ (c .before .before .loop-test .taken) (c .before .first-line .ensures) (c .answer .ensures .1) refl
 
 none-requires : tie.Need-none-requires Inv-loop μ-loop
 none-requires c κs = search needs
