@@ -1,47 +1,48 @@
 // Refusals 6 to 10 in words: what broke the check.
 use crate::say::say;
 use crate::say::say_decimal;
-use crate::say::say_number;
+use crate::say::say_one;
+use crate::say::say_three;
+use crate::say::say_two;
 use record::Group;
 use record::Record;
 use record::Wall;
 ghost use Prim.Native.Nat.{_≤_};
 
+fn is_within(x: u64, low: u64, high: u64) -> bool {
+    if x < low {
+        return false;
+    }
+    x <= high
+}
+
 // A field that is outside its range; nothing of one that is not.
 fn say_range(ok: bool, name: &[u8], x: u64, low: u64, high: u64) -> bool {
-    if low <= x {
-        if x <= high {
-            return ok;
-        }
+    if is_within(x, low, high) {
+        return ok;
     }
-    let ok = say(ok, b"; ");
     let ok = say(ok, name);
-    let ok = say(ok, b" is ");
-    let ok = say_number(ok, x);
-    let ok = say(ok, b", not from ");
-    let ok = say_number(ok, low);
-    let ok = say(ok, b" to ");
-    say_number(ok, high)
+    say_three(ok, b" is %, not from % to %", x, low, high)
 }
 
 fn say_dimensions(ok: bool, w: Wall) -> bool {
     let ok = say_range(
         ok,
-        b"r (mm)",
+        b"; r (mm)",
         w.radius,
         Record::RADIUS_LEAST,
         Record::RADIUS_MOST,
     );
     let ok = say_range(
         ok,
-        b"t (hundredths of a mm)",
+        b"; t (hundredths of a mm)",
         w.thickness,
         Record::THICKNESS_LEAST,
         Record::THICKNESS_MOST,
     );
     say_range(
         ok,
-        b"l (mm)",
+        b"; l (mm)",
         w.length,
         Record::LENGTH_LEAST,
         Record::LENGTH_MOST,
@@ -51,14 +52,14 @@ fn say_dimensions(ok: bool, w: Wall) -> bool {
 fn say_material(ok: bool, w: Wall) -> bool {
     let ok = say_range(
         ok,
-        b"E (N/mm2)",
+        b"; E (N/mm2)",
         w.modulus,
         Record::MODULUS_LEAST,
         Record::MODULUS_MOST,
     );
     say_range(
         ok,
-        b"fy (N/mm2)",
+        b"; fy (N/mm2)",
         w.yield_stress,
         Record::YIELD_LEAST,
         Record::YIELD_MOST,
@@ -66,9 +67,9 @@ fn say_material(ok: bool, w: Wall) -> bool {
 }
 
 fn say_stresses(ok: bool, g: Group) -> bool {
-    let ok = say_range(ok, b"sx (kN/m2)", g.axial, 0, Record::STRESS_MOST);
-    let ok = say_range(ok, b"sphi (kN/m2)", g.ring, 0, Record::STRESS_MOST);
-    say_range(ok, b"tau (kN/m2)", g.shear, 0, Record::STRESS_MOST)
+    let ok = say_range(ok, b"; sx (kN/m2)", g.axial, 0, Record::STRESS_MOST);
+    let ok = say_range(ok, b"; sphi (kN/m2)", g.ring, 0, Record::STRESS_MOST);
+    say_range(ok, b"; tau (kN/m2)", g.shear, 0, Record::STRESS_MOST)
 }
 
 // 6: each field that is outside its range.
@@ -81,9 +82,7 @@ fn say_ranges(ok: bool, w: Wall, g: Group) -> bool {
 
 // 7
 fn say_edges(ok: bool, edges: u64) -> bool {
-    let ok = say(ok, b"the edges are ");
-    let ok = say_number(ok, edges);
-    let ok = say(ok, b", not 11, 12 or 22");
+    let ok = say_one(ok, b"the edges are %, not 11, 12 or 22", edges);
     if edges == 21 {
         return say(ok, b"; 21 is written 12");
     }
@@ -136,10 +135,12 @@ fn say_length_ratio(ok: bool, l: u64, r: u64) -> bool {
 
 // 10
 fn say_imperfection(ok: bool, a: u64) -> bool {
-    let ok = say(ok, b"the imperfection a (thousandths) is ");
-    let ok = say_number(ok, a);
-    let ok = say(ok, b", over ");
-    say_number(ok, Record::IMPERFECTION_MOST)
+    say_two(
+        ok,
+        b"the imperfection a (thousandths) is %, over %",
+        a,
+        Record::IMPERFECTION_MOST,
+    )
 }
 
 // Why a record is refused by n.

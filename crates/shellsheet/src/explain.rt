@@ -3,7 +3,10 @@ use crate::checks::say_check;
 use crate::form::say_form;
 use crate::say::say;
 use crate::say::say_decimal;
-use crate::say::say_number;
+use crate::say::say_one;
+use crate::say::say_piece;
+use crate::say::say_three;
+use crate::say::say_two;
 use answer::Answer;
 use answer::Judgement;
 use answer::Verdict;
@@ -65,14 +68,19 @@ fn say_units(ok: bool, line: &[u8]) -> bool {
     ok
 }
 
+// Which word a verdict has, of those in `say_judged`.
+fn verdict_word(v: Verdict) -> u64 {
+    match v {
+        Verdict::Holds => 0,
+        Verdict::Fails => 1,
+        Verdict::Open => 2,
+    }
+}
+
 // A verdict, with the sum.
 fn say_judged(ok: bool, j: Judgement, line: &[u8]) -> bool {
     let verdict = j.verdict;
-    let ok = match verdict {
-        Verdict::Holds => say(ok, b" holds"),
-        Verdict::Fails => say(ok, b" fails"),
-        Verdict::Open => say(ok, b" is open"),
-    };
+    let ok = say_piece(ok, b" holds% fails% is open", verdict_word(verdict));
     let ok = say_sum(ok, j.low, j.high);
     say_units(ok, line)
 }
@@ -80,9 +88,7 @@ fn say_judged(ok: bool, j: Judgement, line: &[u8]) -> bool {
 // Why a line is refused by n.
 fn say_why(ok: bool, n: u64, line: &[u8]) -> bool {
     if n == 4 {
-        let ok = say(ok, b"it has ");
-        let ok = say_number(ok, line.len() as u64);
-        return say(ok, b" bytes, over 128");
+        return say_one(ok, b"it has % bytes, over 128", line.len() as u64);
     }
     let Form::Read(c) = read(line) else {
         return say_form(ok, line);
@@ -92,20 +98,22 @@ fn say_why(ok: bool, n: u64, line: &[u8]) -> bool {
 
 // A refusal, with what broke the check.
 fn say_refused(ok: bool, n: u64, line: &[u8]) -> bool {
-    let ok = say(ok, b" is refused by ");
-    let ok = say_number(ok, n);
-    let ok = say(ok, b": ");
+    let ok = say_one(ok, b" is refused by %: ", n);
     say_why(ok, n, line)
+}
+
+// The answer to a line.
+fn say_answer(ok: bool, a: Answer, line: &[u8]) -> bool {
+    match a {
+        Answer::Judged(j) => say_judged(ok, j, line),
+        Answer::Refused(n) => say_refused(ok, n, line),
+    }
 }
 
 // Line k of a sheet.
 fn say_line(ok: bool, k: u64, line: &[u8]) -> bool {
-    let ok = say(ok, b"line ");
-    let ok = say_number(ok, k);
-    let ok = match sheet::answer(line) {
-        Answer::Judged(j) => say_judged(ok, j, line),
-        Answer::Refused(n) => say_refused(ok, n, line),
-    };
+    let ok = say_one(ok, b"line %", k);
+    let ok = say_answer(ok, sheet::answer(line), line);
     say(ok, b"\n")
 }
 
@@ -125,28 +133,20 @@ fn say_lines(ok: bool, sheet: &[u8]) -> bool {
 
 // The counts of a sheet.
 fn say_total(ok: bool, c: Counts) -> bool {
-    let ok = say(ok, b"total: lines ");
-    let ok = say_number(ok, c.lines);
-    let ok = say(ok, b", holds ");
-    let ok = say_number(ok, c.holds);
-    let ok = say(ok, b", fails ");
-    let ok = say_number(ok, c.fails);
-    let ok = say(ok, b", open ");
-    let ok = say_number(ok, c.opens);
-    let ok = say(ok, b", refused ");
-    let ok = say_number(ok, c.refused);
-    say(ok, b"\n")
+    let ok = say_three(
+        ok,
+        b"total: lines %, holds %, fails %",
+        c.lines,
+        c.holds,
+        c.fails,
+    );
+    say_two(ok, b", open %, refused %\n", c.opens, c.refused)
 }
 
 // Why a sheet is turned back with the number n.
 fn say_batch(ok: bool, n: u64) -> bool {
-    let ok = say(ok, b"the batch is refused by ");
-    let ok = say_number(ok, n);
-    match n {
-        1 => say(ok, b": the sheet has over 65535 bytes\n"),
-        2 => say(ok, b": the sheet has over 1024 lines\n"),
-        _ => say(ok, b"\n"),
-    }
+    let ok = say_one(ok, b"the batch is refused by %: the sheet has over ", n);
+    say_piece(ok, b"%65535 bytes\n%1024 lines\n", n)
 }
 
 // The answers to a sheet in words, and their total; or why the sheet is turned back.

@@ -1,7 +1,8 @@
 // Refusal 5 in words: the byte at which a line stops being of the form, and what was expected there.
 use crate::say::say;
 use crate::say::say_byte;
-use crate::say::say_number;
+use crate::say::say_one;
+use crate::say::say_piece;
 use crate::scan::Stop;
 use crate::scan::is_digit;
 use crate::scan::is_number;
@@ -9,25 +10,15 @@ use crate::scan::scan_line;
 
 // A place that is counted from 0, by its byte's number.
 fn say_place(ok: bool, at: usize) -> bool {
-    let ok = say(ok, b"byte ");
-    let ok = say_number(ok, std::num::wrapping_add_u64(at as u64, 1));
-    say(ok, b": ")
+    say_one(ok, b"byte %: ", std::num::wrapping_add_u64(at as u64, 1))
 }
 
 // The name of a number of the form.
 fn say_name(ok: bool, want: u8) -> bool {
-    match want {
-        b'R' => say(ok, b"r"),
-        b'T' => say(ok, b"t"),
-        b'L' => say(ok, b"l"),
-        b'E' => say(ok, b"E"),
-        b'Y' => say(ok, b"fy"),
-        b'D' => say(ok, b"edges"),
-        b'A' => say(ok, b"a"),
-        b'X' => say(ok, b"sx"),
-        b'P' => say(ok, b"sphi"),
-        _ => say(ok, b"tau"),
+    if want < 65 {
+        return ok;
     }
+    say_piece(ok, b"r%t%l%E%fy%edges%a%sx%sphi%tau", (want - 65) as u64)
 }
 
 // What the form wants: a number by its name, or a byte.
@@ -59,13 +50,31 @@ fn say_found(ok: bool, line: &[u8], at: usize) -> bool {
     say_hint(ok, b)
 }
 
-// Why the digits at a place are no number of the form; `first` is the first of them.
-fn say_digits(ok: bool, first: u8, want: u8) -> bool {
-    let ok = if first == 48 {
-        say(ok, b"a number without leading zeros")
-    } else {
-        say(ok, b"a number of at most 7 digits")
-    };
+// What is wrong with digits that stand where the form wants a number: 1 for a leading zero, 2 for too many, 0 where no digits stand there.
+fn digits_fault(line: &[u8], at: usize, want: u8) -> u64 {
+    if !is_number(want) {
+        return 0;
+    }
+    if line.len() <= at {
+        return 0;
+    }
+    let first = line[at];
+    if !is_digit(first) {
+        return 0;
+    }
+    if first == 48 {
+        return 1;
+    }
+    2
+}
+
+// What was expected in place of digits that are no number of the form.
+fn say_digits(ok: bool, fault: u64, want: u8) -> bool {
+    let ok = say_piece(
+        ok,
+        b"%a number without leading zeros%a number of at most 7 digits",
+        fault,
+    );
     let ok = say(ok, b" was expected for ");
     say_name(ok, want)
 }
@@ -73,13 +82,9 @@ fn say_digits(ok: bool, first: u8, want: u8) -> bool {
 // What was expected at a place, and what stands there.
 fn say_expected(ok: bool, line: &[u8], at: usize, want: u8) -> bool {
     let ok = say_place(ok, at);
-    if at < line.len() {
-        let first = line[at];
-        if is_digit(first) {
-            if is_number(want) {
-                return say_digits(ok, first, want);
-            }
-        }
+    let fault = digits_fault(line, at, want);
+    if 0 < fault {
+        return say_digits(ok, fault, want);
     }
     let ok = say_want(ok, want);
     let ok = say(ok, b" was expected, and ");

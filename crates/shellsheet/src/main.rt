@@ -15,18 +15,16 @@ use libc::STDERR_FILENO;
 use libc::STDIN_FILENO;
 use options::Options;
 use options::argument;
-use options::is_option;
+use options::names_sheet;
 use options::same;
 use say::say;
-use say::say_number;
+use say::say_one;
 use stream::Input;
 use stream::read_sheet;
 
 // Writes "(batch refused N)" and a newline.
 fn say_refusal(ok: bool, n: u64) -> bool {
-    let ok = say(ok, b"(batch refused ");
-    let ok = say_number(ok, n);
-    say(ok, b")\n")
+    say_one(ok, b"(batch refused %)\n", n)
 }
 
 // Writes the listing of a sheet.
@@ -94,15 +92,10 @@ fn list_named(name: &[u8], o: Options) -> bool {
 // Lists the sheet that argument i names, if it names one.
 fn list_argument(i: usize, o: Options) -> bool {
     let end = o.end;
-    if i == end {
-        return true;
-    }
     let mut name = io::buffer();
     let n = argument(i, &mut name);
-    if i < end {
-        if is_option(&name[..n]) {
-            return true;
-        }
+    if !names_sheet(i, end, &name[..n]) {
+        return true;
     }
     list_named(&name[..n], o)
 }

@@ -52,11 +52,19 @@ pub(crate) fn same(a: &[u8], b: &[u8]) -> bool {
 }
 
 // Whether an argument is an option, before the options end: - alone is a sheet, standard input.
-pub(crate) fn is_option(arg: &[u8]) -> bool {
+fn is_option(arg: &[u8]) -> bool {
     if arg.len() < 2 {
         return false;
     }
     arg[0] == b'-'
+}
+
+// Whether argument i, which is `arg`, names a sheet where the options end at `end`.
+pub(crate) fn names_sheet(i: usize, end: usize, arg: &[u8]) -> bool {
+    if end < i {
+        return true;
+    }
+    !is_option(arg)
 }
 
 // What an argument is, before the options end.
@@ -115,27 +123,29 @@ impl Options {
     fn with_word(self, i: usize, arg: &[u8]) -> Self {
         let mut o = self;
         match word_of(arg) {
-            Word::Sheet => {
-                return o.with_sheet();
-            }
+            Word::Sheet => o.with_sheet(),
             Word::End => {
                 o.end = i;
+                o
             }
             Word::Explain => {
                 o.explain = true;
+                o
             }
             Word::Help => {
                 o.help = true;
+                o
             }
             Word::Version => {
                 o.version = true;
+                o
             }
             Word::Unknown => {
-                o.unknown = true;
                 refuse(arg);
+                o.unknown = true;
+                o
             }
         }
-        o
     }
 
     // With argument i.

@@ -39,6 +39,17 @@ fn digits_end(line: &[u8], at: usize) -> usize
     i
 }
 
+// Whether the digits at `at`, so many, begin with a zero that leads.
+fn has_leading_zero(line: &[u8], at: usize, count: usize) -> bool {
+    if count < 2 {
+        return false;
+    }
+    if line.len() <= at {
+        return false;
+    }
+    line[at] == 48
+}
+
 // The place after the number that stands at `at`, or `at` if none does: 1 to 7 digits without a leading zero.
 fn number_end(line: &[u8], at: usize) -> usize {
     let end = digits_end(line, at);
@@ -46,12 +57,8 @@ fn number_end(line: &[u8], at: usize) -> usize {
     if 7 < count {
         return at;
     }
-    if 1 < count {
-        if at < line.len() {
-            if line[at] == 48 {
-                return at;
-            }
-        }
+    if has_leading_zero(line, at, count) {
+        return at;
     }
     end
 }
@@ -86,7 +93,7 @@ fn scan(line: &[u8], form: &[u8]) -> Stop {
     Stop::Behind(at)
 }
 
-// Where `line` stops being of the form: the whole grammar is here, and the names of its numbers in `say_name` of form.rt.
+// Where `line` stops being of the form: this is the whole grammar, and `say_name` in form.rt has the names of A, B and so on.
 pub(crate) fn scan_line(line: &[u8]) -> Stop {
-    scan(line, b"(shell R T L E Y D A (stress X P S))")
+    scan(line, b"(shell A B C D E F G (stress H I J))")
 }
