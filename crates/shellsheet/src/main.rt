@@ -8,6 +8,7 @@ mod say;
 mod scan;
 mod stream;
 
+use check::same;
 use explain::say_answers;
 use help::say_help;
 use help::say_version;
@@ -16,7 +17,6 @@ use libc::STDIN_FILENO;
 use options::Options;
 use options::argument;
 use options::names_sheet;
-use options::same;
 use say::say;
 use say::say_one;
 use stream::Input;

@@ -1,4 +1,5 @@
 // The arguments: options, and the sheets that they name.
+use check::same;
 use libc::STDERR_FILENO;
 ghost use Rattle.io.specs.Counts.{Counts};
 
@@ -34,21 +35,6 @@ pub(crate) fn argument(i: usize, buf: &mut [u8]) -> usize
         return io::count(isize::MAX, buf);
     }
     n
-}
-
-// Whether two words have the same bytes.
-pub(crate) fn same(a: &[u8], b: &[u8]) -> bool {
-    if a.len() != b.len() {
-        return false;
-    }
-    let mut i = 0;
-    while i < a.len() {
-        if a[i] != b[i] {
-            return false;
-        }
-        i += 1;
-    }
-    true
 }
 
 // Whether an argument is an option, before the options end: - alone is a sheet, standard input.

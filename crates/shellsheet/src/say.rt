@@ -33,25 +33,10 @@ fn piece_start(text: &[u8], marks: u64) -> usize
     i
 }
 
-// The place of the first mark of `text` from `at` on, or its end.
-fn piece_end(text: &[u8], at: usize) -> usize
-    requires { ⌜ at ≤ length (now text) ⌝ }
-    ensures { λ r. ⌜ (at ≤ r) × (r ≤ length (now (text .entry))) ⌝ }
-{
-    let mut i = at;
-    while i < text.len() {
-        if text[i] == b'%' {
-            return i;
-        }
-        i += 1;
-    }
-    i
-}
-
 // Piece k of `text`, counted from 0: marks % part it into pieces.
 pub(crate) fn say_piece(ok: bool, text: &[u8], k: u64) -> bool {
     let start = piece_start(text, k);
-    let end = piece_end(text, start);
+    let end = bytes::scan::find(text, start, text.len(), b'%');
     say(ok, &text[start..end])
 }
 
