@@ -2,6 +2,7 @@
 #
 #     make                    prove and build the program and the archive for C; 4 to 5 minutes the first time, on two cores
 #     make program            the program alone: target/bin/shellsheet
+#     make driver             target/driver, which makes the calls of stored cases for tests/vectors
 #     make install            install what is built into PREFIX (/usr/local); needs no rt once it is built
 #     make uninstall          remove what install put there, with the same PREFIX, LIBDIR and DESTDIR
 #     make check              run every test of tests/ on what is built, a minute; .ci/run is the whole gate, which proves all again
@@ -21,10 +22,12 @@ number = $(shell sed -n 's/^.define SHELLSHEET_VERSION_$(1) //p' $(header))
 VERSION := $(call number,MAJOR).$(call number,MINOR)
 program = target/bin/shellsheet
 archive = target/staticlib/libcapi.a
+driver = target/driver
 sources = crates.txt $(shell find crates -name '*.rt' -o -name '*.antt')
 
 all: $(program) $(archive)
 program: $(program)
+driver: $(driver)
 
 # File times alone tell what is old, so that what is built can be installed where there is no rt.
 $(program): $(sources)
@@ -38,6 +41,9 @@ $(archive): $(sources) | $(program)
 	@echo 'Proving and building the archive for C: under a minute. To follow it: tail -f target/staticlib.log'
 	rt staticlib capi >target/staticlib.log 2>&1 || { rm -f $@; tail -n 40 target/staticlib.log; exit 1; }
 	@touch -c $@
+
+$(driver): tests/driver.c $(header) $(archive)
+	gcc -std=c11 -Wall -Wextra -Wconversion -Werror -O2 -o $@ tests/driver.c $(archive)
 
 # ---------------------------------------------------------------- installation
 
@@ -98,4 +104,4 @@ clean:
 help:
 	@sed -n '/^#/!q; s/^#$$//; s/^# //; p' Makefile; echo 'This is version $(VERSION).'
 
-.PHONY: all program paths install uninstall check clean help
+.PHONY: all program driver paths install uninstall check clean help

@@ -1,4 +1,4 @@
-/* The sum as a shop would write it: plain doubles, no exactness. v holds the ten numbers of a record within the limits. */
+/* The sum as a shop would write it: plain doubles, no exactness. v holds the eleven numbers of a record within the limits, d the last. */
 #include <math.h>
 #include <stdint.h>
 
@@ -6,7 +6,7 @@ static double tolerance(double S, double q) { return S < 1.5 ? 1 - S / 3 * (q - 
 static double kappa1(double S) { return S <= 0.4 ? 1 : S < 1.2 ? 1.274 - 0.686 * S : 0.65 / (S * S); }
 
 static double double_sum(const uint64_t *v) {
-    double r = v[0], t = v[1] / 100.0, l = v[2], E = v[3], fy = v[4], q = v[6] > 1000 ? v[6] / 1000.0 : 1;
+    double r = v[0], t = (v[1] < 500 ? v[1] - 0.5 * v[10] : v[1]) / 100.0, l = v[2], E = v[3], fy = v[4], q = v[6] > 1000 ? v[6] / 1000.0 : 1;
     double eta = v[5] == 11 ? 6 : v[5] == 12 ? 3 : 1, C = v[5] == 11 ? 1.5 : v[5] == 12 ? 1.25 : 1;
     double rt = sqrt(r / t), tr = t / r, lr = l / r, sum = 0;
     if (v[7]) {

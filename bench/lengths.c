@@ -1,5 +1,5 @@
-/* Counts the length tests that the double formula (double.h) decides wrongly, over every radius, wall and length within the limits: for each
-   radius and wall, the whole lengths next to the limit. The right answer is a comparison of whole numbers. */
+/* Counts the length tests that the double formula (double.h) decides wrongly, over every radius, wall and length within the limits, without
+   a shortfall: for each radius and wall, the whole lengths next to the limit. The right answer is a comparison of whole numbers. */
 #include <math.h>
 #include <stdint.h>
 #include <stdio.h>

@@ -1,4 +1,4 @@
-/* Times the C call beside the double formula, on the records of a file (ten numbers a line, what follows '|' is not read).
+/* Times the C call beside the double formula, on the records of a file (eleven numbers a line, what follows '|' is not read).
    Records that are refused are left out. Figures are the medians of REPEATS runs, in ns a record. */
 #include <inttypes.h>
 #include <stdio.h>
@@ -9,22 +9,22 @@
 enum { REPEATS = 15, MOST = 4096 };
 
 uint64_t shell_judge(uint64_t r, uint64_t t, uint64_t l, uint64_t e, uint64_t fy, uint64_t edges, uint64_t a,
-                     uint64_t sx, uint64_t sphi, uint64_t tau);
+                     uint64_t sx, uint64_t sphi, uint64_t tau, uint64_t d);
 
-static uint64_t rec[MOST][10];
+static uint64_t rec[MOST][11];
 static volatile uint64_t sink;
 static volatile double dsink;
 
-static uint64_t exact(const uint64_t *v) { return shell_judge(v[0], v[1], v[2], v[3], v[4], v[5], v[6], v[7], v[8], v[9]); }
+static uint64_t exact(const uint64_t *v) { return shell_judge(v[0], v[1], v[2], v[3], v[4], v[5], v[6], v[7], v[8], v[9], v[10]); }
 
 /* which: a mask of the stresses that are kept, 1 axial, 2 ring, 4 shear, of the records that have all three */
 static void run(const char *what, int which, size_t n) {
-    static uint64_t v[MOST][10];
+    static uint64_t v[MOST][11];
     double t[2][REPEATS];
     size_t m = 0;
     for (size_t i = 0; i < n; i++) {
         if (!rec[i][7] || !rec[i][8] || !rec[i][9]) continue;
-        for (int j = 0; j < 10; j++) v[m][j] = j < 7 || (which >> (j - 7) & 1) ? rec[i][j] : 0;
+        for (int j = 0; j < 11; j++) v[m][j] = j < 7 || j > 9 || (which >> (j - 7) & 1) ? rec[i][j] : 0;
         m++;
     }
     int rounds = 400000 / (int)m + 1;
@@ -51,8 +51,8 @@ int main(int argc, char **argv) {
     if (!f) return 1;
     while (n < MOST && fgets(line, sizeof line, f)) {
         uint64_t *v = rec[n];
-        if (sscanf(line, "%" SCNu64 " %" SCNu64 " %" SCNu64 " %" SCNu64 " %" SCNu64 " %" SCNu64 " %" SCNu64 " %" SCNu64 " %" SCNu64 " %" SCNu64,
-                   v, v + 1, v + 2, v + 3, v + 4, v + 5, v + 6, v + 7, v + 8, v + 9) == 10 && exact(v) > 10)
+        if (sscanf(line, "%" SCNu64 " %" SCNu64 " %" SCNu64 " %" SCNu64 " %" SCNu64 " %" SCNu64 " %" SCNu64 " %" SCNu64 " %" SCNu64 " %" SCNu64 " %" SCNu64,
+                   v, v + 1, v + 2, v + 3, v + 4, v + 5, v + 6, v + 7, v + 8, v + 9, v + 10) == 11 && exact(v) > 11)
             n++;
     }
     printf("%-24s %6s %10s %18s %8s %16s\n", "ns a record", "", "exact", "", "double", "ratio");

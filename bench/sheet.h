@@ -1,4 +1,4 @@
-/* A whole sheet with the sum in doubles (double.h, to be included first): reading, the checks of SCOPE 10, the listing. */
+/* A whole sheet with the sum in doubles (double.h, to be included first): reading, the checks of SCOPE 10 in their order, the listing. */
 #include <stddef.h>
 #include <stdio.h>
 #include <string.h>
@@ -26,16 +26,23 @@ static int outside(uint64_t x, uint64_t low, uint64_t high) { return x < low || 
 
 /* The answer to a line: a refusal, HOLDS or FAILS. */
 static int double_answer(const unsigned char *at, const unsigned char *end) {
-    uint64_t v[10];
+    uint64_t v[11];
     if (end - at > 128) return 4;
     at = fixed(at, end, "(shell ");
-    for (int i = 0; i < 10; i++) at = fixed(number(at, end, &v[i]), end, i == 6 ? " (stress " : i == 9 ? "))" : " ");
+    for (int i = 0; i < 7; i++) at = number(i ? fixed(at, end, " ") : at, end, &v[i]);
+    const unsigned char *group = fixed(at, end, " (stress ");
+    v[10] = 0; /* a line without d */
+    if (!group) group = fixed(number(fixed(at, end, " "), end, &v[10]), end, " (stress ");
+    at = group;
+    for (int i = 7; i < 10; i++) at = fixed(number(at, end, &v[i]), end, i == 9 ? "))" : " ");
     if (at != end) return 5;
     if (outside(v[0], 100, 50000) || outside(v[1], 100, 10000) || outside(v[2], 10, 200000) || outside(v[3], 60000, 220000) ||
         outside(v[4], 100, 700) || v[7] > 700000 || v[8] > 700000 || v[9] > 700000)
         return 6;
     if (v[5] != 11 && v[5] != 12 && v[5] != 22) return 7;
-    if (outside(100 * v[0], 20 * v[1], 2500 * v[1])) return 8;
+    if (v[10] > 50) return 11;
+    uint64_t wall = v[1] < 500 ? 2 * v[1] - v[10] : 2 * v[1]; /* 200ths of a mm */
+    if (outside(200 * v[0], 20 * wall, 2500 * wall)) return 8;
     if (v[0] > 20 * v[2] || v[2] > 50 * v[0]) return 9;
     if (v[6] > 2000) return 10;
     return double_sum(v) <= 1 ? HOLDS : FAILS;

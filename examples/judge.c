@@ -1,4 +1,4 @@
-/* Judges shells from C. Ten numbers as arguments are one shell; without arguments, each line of standard input is one. Stresses are in
+/* Judges shells from C. Eleven numbers as arguments are one shell; without arguments, each line of standard input is one. Stresses are in
    kN/m². Compile: cc -Wconversion judge.c $(pkg-config --cflags --libs shellsheet) */
 #include <errno.h>
 #include <shellsheet.h>
@@ -6,7 +6,7 @@
 #include <stdlib.h>
 #include <string.h>
 
-enum { FIELDS = 10 };
+enum { FIELDS = 11 };
 
 /* Reads a whole number of digits alone. A number that 64 bits do not hold is said and not wrapped. */
 static int number(const char *word, uint64_t *v) {
@@ -40,13 +40,13 @@ static void show(uint64_t answer) {
 static int judge(char *const *word, int count) {
     uint64_t v[FIELDS];
     if (count != FIELDS) {
-        fprintf(stderr, "judge: %s%d numbers, ten are needed: r t l E fy edges a sx sphi tau\n", count > FIELDS ? "more than " : "",
+        fprintf(stderr, "judge: %s%d numbers, eleven are needed: r t l E fy edges a sx sphi tau d\n", count > FIELDS ? "more than " : "",
                 count > FIELDS ? FIELDS : count);
         return 0;
     }
     for (int i = 0; i < FIELDS; i++)
         if (!number(word[i], &v[i])) return 0;
-    show(shell_judge(v[0], v[1], v[2], v[3], v[4], v[5], v[6], v[7], v[8], v[9]));
+    show(shell_judge(v[0], v[1], v[2], v[3], v[4], v[5], v[6], v[7], v[8], v[9], v[10]));
     if (fflush(stdout)) {
         perror("judge: standard output");
         return 0;

@@ -1,11 +1,15 @@
 /* Judges one steel shell, an unstiffened circular cylinder, to DIN 18800-4:2008-11. Link with -lshellsheet (pkg-config shellsheet).
 
    UNITS: e and fy are in N/mm², but the three stresses are in kN/m²: 1 N/mm² is 1,000 kN/m². A stress passed in N/mm² is
-   1,000 times too small, no check can notice it, and the shell holds. Round stresses up and walls down.
+   1,000 times too small, no check can notice it, and the shell holds. Round stresses and shortfalls up, and walls down.
 
    WHOLE NUMBERS: C cuts a double that is passed here without a word. Compile with -Wconversion, which warns of it, and round
-   by hand: a stress of x N/mm² is (uint64_t)ceil(1000 * x), a wall of x mm (uint64_t)floor(100 * x). A negative whole number,
-   such as a tension, arrives as one above 2^63 and is refused; a negative double has no defined value in C. */
+   by hand: a stress of x N/mm² is (uint64_t)ceil(1000 * x), a wall of x mm (uint64_t)floor(100 * x), a shortfall of x mm
+   (uint64_t)ceil(100 * x). A negative whole number, such as a tension, arrives as one above 2^63 and is refused; a negative double
+   has no defined value in C.
+
+   BEFORE VERSION 0.2 shell_judge had ten numbers, and no shortfall. A client that was compiled for it has to be changed and compiled
+   again: it passes no d, and what stands in that place would be read as one. With 0 for d its answers are those that it had. */
 #ifndef SHELLSHEET_H
 #define SHELLSHEET_H
 
@@ -13,7 +17,7 @@
 
 /* The version, as two numbers and as text: "MAJOR.MINOR". It stands here alone: make reads it from these two lines. */
 #define SHELLSHEET_VERSION_MAJOR 0
-#define SHELLSHEET_VERSION_MINOR 1
+#define SHELLSHEET_VERSION_MINOR 2
 #define SHELLSHEET_VERSION SHELLSHEET_TEXT(SHELLSHEET_VERSION_MAJOR, SHELLSHEET_VERSION_MINOR)
 #define SHELLSHEET_TEXT(major, minor) SHELLSHEET_QUOTE(major) "." SHELLSHEET_QUOTE(minor)
 #define SHELLSHEET_QUOTE(number) #number
@@ -22,7 +26,7 @@
 extern "C" {
 #endif
 
-/* The answer to one record: a refusal, 6 to 10, or 10,000,000,000 × verdict + 100,000 × L + U. Any ten numbers may be passed; a
+/* The answer to one record: a refusal, 6 to 11, or 10,000,000,000 × verdict + 100,000 × L + U. Any eleven numbers may be passed; a
    number outside its limits is answered by a refusal.
 
        r              radius of the middle surface, mm            100 to 50,000
@@ -33,18 +37,21 @@ extern "C" {
        edges          11, 12 or 22, a digit for each edge: 1 held radially and axially, 2 held radially and free axially
        a              worst imperfection, thousandths of what is permitted: up to 2,000, below 1,000 counts as 1,000
        sx, sphi, tau  axial, ring and shear stress, kN/m² (not N/mm²), compression positive: up to 700,000
+       d              shortfall of the wall that the delivery standard permits, hundredths of a mm: up to 50
 
-   Further, r/t is from 20 to 2,500, and l from r/20 to 50 r.
+   Where t is below 500, the wall is reckoned as t - d/2, by element 306 of the standard; from 500 up d has no effect. Further, r/t is
+   from 20 to 2,500, with that wall, and l from r/20 to 50 r.
 
    It allocates nothing, keeps no state, changes no memory of the caller's, and may be called by many threads at once. It takes
    less than 16 KB of the calling thread's stack. */
 uint64_t shell_judge(uint64_t r, uint64_t t, uint64_t l, uint64_t e, uint64_t fy, uint64_t edges, uint64_t a,
-                     uint64_t sx, uint64_t sphi, uint64_t tau);
+                     uint64_t sx, uint64_t sphi, uint64_t tau, uint64_t d);
 
-/* Why a record is refused: the first of these checks that it breaks. */
+/* Why a record is refused: the first of these checks, in this order, that it breaks. */
 enum shell_refusals {
     SHELL_REFUSED_RANGE = 6,         /* r, t, l, e, fy or a stress is outside its range */
     SHELL_REFUSED_EDGES = 7,         /* edges are not 11, 12 or 22 */
+    SHELL_REFUSED_SHORTFALL = 11,    /* d is over 50 */
     SHELL_REFUSED_WALL = 8,          /* r/t is not from 20 to 2,500 */
     SHELL_REFUSED_LENGTH = 9,        /* l is below r/20 or over 50 r */
     SHELL_REFUSED_IMPERFECTION = 10  /* a is over 2,000 */
@@ -82,6 +89,7 @@ static inline const char *shell_reason(uint64_t answer) {
     switch (answer) {
     case SHELL_REFUSED_RANGE: return "radius, wall, length, modulus, yield stress or a stress is outside its range";
     case SHELL_REFUSED_EDGES: return "the edges are not 11, 12 or 22";
+    case SHELL_REFUSED_SHORTFALL: return "the shortfall is over 50 hundredths of a mm";
     case SHELL_REFUSED_WALL: return "r/t is not from 20 to 2,500";
     case SHELL_REFUSED_LENGTH: return "the length is below r/20 or over 50 r";
     case SHELL_REFUSED_IMPERFECTION: return "the imperfection is over 2,000";

@@ -1,4 +1,4 @@
-/* Judges the records on standard input, lines of ten numbers, by one thread and then by 8 at once, each on a stack of its own that was
+/* Judges the records on standard input, lines of eleven numbers, by one thread and then by 8 at once, each on a stack of its own that was
    painted before. The answers have to be equal. Prints how far below its caller's frame shell_judge wrote: the stack it takes. */
 #define _GNU_SOURCE
 #include <inttypes.h>
@@ -11,7 +11,7 @@
 
 enum { THREADS = 8, ROUNDS = 100, MOST = 4096, STACK = 1 << 18, PAINT = 0xA5 };
 
-static uint64_t records[MOST][10], wanted[MOST];
+static uint64_t records[MOST][11], wanted[MOST];
 static size_t count;
 static pthread_barrier_t start;
 
@@ -23,7 +23,7 @@ struct work {
 };
 
 static uint64_t judge(const uint64_t *v) {
-    return shell_judge(v[0], v[1], v[2], v[3], v[4], v[5], v[6], v[7], v[8], v[9]);
+    return shell_judge(v[0], v[1], v[2], v[3], v[4], v[5], v[6], v[7], v[8], v[9], v[10]);
 }
 
 static void *run(void *given) {
@@ -56,11 +56,11 @@ int main(void) {
     size_t wrong = 0, most = 0;
     for (;; count++) {
         int i = 0;
-        while (i < 10 && count < MOST && scanf("%" SCNu64, &records[count][i]) == 1) i++;
-        if (i < 10) break;
+        while (i < 11 && count < MOST && scanf("%" SCNu64, &records[count][i]) == 1) i++;
+        if (i < 11) break;
         wanted[count] = judge(records[count]);
     }
-    if (!count || !feof(stdin)) return broken("not lines of ten numbers, or too many");
+    if (!count || !feof(stdin)) return broken("not lines of eleven numbers, or too many");
     if (pthread_barrier_init(&start, NULL, THREADS) || pthread_attr_init(&attr)) return broken("no barrier");
     for (size_t k = 0; k < THREADS; k++) {
         void *stack = mmap(NULL, STACK, PROT_READ | PROT_WRITE, MAP_PRIVATE | MAP_ANONYMOUS, -1, 0);

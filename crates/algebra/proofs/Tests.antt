@@ -1,7 +1,8 @@
--- Tests joined by and, or: what the joined test says of its parts, and the parts of it. Assumes nothing.
+-- Tests joined by and, or: what the joined test says of its parts, and the parts of it; and what is chosen by a test. Assumes nothing.
 use mathlib.Core.Path.{_≡_, refl, sym, _∙_}
 use mathlib.Core.Bool.{Bool, true, false, _&&_, _||_, true≢false}
 use mathlib.Core.Logic.{_⊎_, inl, inr}
+use Rattle.algebra.specs.Choice.{pick}
 
 pub and-false : (a b : Bool) → (a && b) ≡ false → (a ≡ false) ⊎ (b ≡ false)
 and-false true b h = inr h
@@ -43,3 +44,8 @@ and-rest false b h e = absurd (true≢false (sym e))
 -- a test cannot give both answers
 pub clash : {b : Bool} → b ≡ true → b ≡ false → ⊥
 clash h k = true≢false (sym h ∙ k)
+
+-- what holds of both holds of the one that is chosen
+pub pick-either : {A : Type 0} (P : A → Type 0) {x y : A} (b : Bool) → P x → P y → P (pick b x y)
+pick-either P true p q = p
+pick-either P false p q = q

@@ -7,7 +7,7 @@ ghost use Rattle.record.specs.Right.{Right};
 ghost use Rattle.record.specs.Answering.{recordAnswer};
 use record::Record;
 
-// Ten numbers in the order of a line, and the number of the answer. Nothing is changed.
+// The numbers of a line, but the shortfall last, and the number of the answer. Nothing is changed.
 #[no_mangle]
 pub extern "C" fn shell_judge(
     r: u64,
@@ -20,10 +20,11 @@ pub extern "C" fn shell_judge(
     sx: u64,
     sphi: u64,
     tau: u64,
+    d: u64,
 ) -> u64
-    ensures { λ n. ⌜ n ≡ answerNumber (recordAnswer (recordOf r t l e fy edges a sx sphi tau)) ⌝ }
-    ensures { λ n. ⌜ NumberOfRight (Right (recordOf r t l e fy edges a sx sphi tau)) n ⌝ }
+    ensures { λ n. ⌜ n ≡ answerNumber (recordAnswer (recordOf r t l e fy edges a sx sphi tau d)) ⌝ }
+    ensures { λ n. ⌜ NumberOfRight (Right (recordOf r t l e fy edges a sx sphi tau d)) n ⌝ }
 {
-    let given = Record::judge(r, t, l, e, fy, edges, a, sx, sphi, tau);
+    let given = Record::judge(r, t, l, e, fy, edges, a, sx, sphi, tau, d);
     given.number()
 }

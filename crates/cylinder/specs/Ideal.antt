@@ -6,7 +6,7 @@ use Rattle.cylinder.specs.Fraction.{Fraction, _//_, whole, tenths, hundr
 use Rattle.cylinder.specs.Number.{Number, exactly, timesRoot, plusRoot, minusRoot, scaled, larger}
 use Rattle.algebra.specs.Choice.{pick}
 
--- r, t, l in mm, E and fy in N/mm². The shell's wall is in 200ths of a mm (decision 27); it is the nominal one (decision 56).
+-- r, t, l in mm, E and fy in N/mm². The shell's wall is in 200ths of a mm (decision 27); it is the effective one (decision 56).
 abbrev pub r : Cylinder → Fraction
 r s = whole (s .radius)
 

@@ -3,7 +3,7 @@
 use Prim.Native.Nat.{_*_, _≤_}
 use Rattle.cylinder.specs.declared.Cylinder.{Cylinder}
 
--- The wall is twice t in hundredths of a mm. By SCOPE 2.2 it is 200 at least; a wall that is short by some hundredths may be down to 150.
+-- The wall is the effective one: by SCOPE 2.2, 20.1 and 20.3 it is 150 at least.
 pub record InLimits (s : Cylinder) : Type 0 where
   pub radius-least : 100 ≤ s .radius
   pub radius-most : s .radius ≤ 50000

@@ -5,7 +5,7 @@
 pub struct Cylinder {
     // radius of the middle surface, mm
     pub radius: u64,
-    // nominal thickness in 200ths of a mm, so that half of a hundredth is still whole
+    // thickness in 200ths of a mm, so that half of a hundredth is still whole
     pub wall: u64,
     // mm
     pub length: u64,

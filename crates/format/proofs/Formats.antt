@@ -5,6 +5,7 @@ use Prim.Native.Nat.{ℕ, _<_}
 use native.Mathlib.Omega.{arith}
 use mathlib.Core.Bool.{Bool, true, false}
 use mathlib.Core.List.{List, [], _∷_, _++_, append-assoc, append-nil}
+use mathlib.Core.Logic.{_⊎_, inl, inr}
 use lib.ListN.{length, drop}
 use lib.Seq.{drop-append-seam}
 use lib.Dec.{eqb}
@@ -18,7 +19,7 @@ use Rattle.word.specs.Numbers.{numberOf}
 use Rattle.word.specs.declared.Numeral.{Numeral}
 use Rattle.word.specs.declared.Numeral.the-variants.{Value, Missing}
 use Rattle.word.proofs.Decimal.{number-decimal, decimal-number, word-decimal}
-use Rattle.format.specs.Readers.{Found, nothing, found, Reader, on, startsWith, fixed, numberFound, number, sequence, changed, before, closed, whole}
+use Rattle.format.specs.Readers.{Found, nothing, found, Reader, on, orElse, startsWith, fixed, empty, numberFound, number, sequence, changed, oneOf, before, closed, optional, whole}
 
 -- values that are Small, written and followed by bytes that may follow, read as themselves; what reads is such a value's text
 pub record Format {A : Type 0} (Small : A → Type 0) (Follows : List ℕ → Type 0) (written : A → List ℕ) (read : Reader A) : Type 0 where
@@ -37,10 +38,17 @@ both w v p = w (p .0) ++ v (p .1)
 differ : {A : Type 0} {C : Type 0} (a : A) (rest : List ℕ) → nothing ≡ found a rest → C
 differ a rest e = absurd (let z : _≡_ {A = ℕ} 0 1 = cc in omega arith)
 
--- ---- fixed bytes, a number
+-- ---- no bytes, fixed bytes, a number
 
 abbrev pub Always : {A : Type 0} → A → Type 0
 Always a = Unit {0}
+
+abbrev nil : Unit {0} → List ℕ
+nil u = []
+
+format-empty : (Follows : List ℕ → Type 0) → Format Always Follows nil empty
+unfolding empty
+format-empty Follows = record { complete = λ a rest small follows. refl; sound = λ s a rest e. (tt, let same : s ≡ rest = cc in same) }
 
 starts-append : (w s : List ℕ) → startsWith w (w ++ s) ≡ true
 unfolding startsWith
@@ -143,6 +151,38 @@ module _ {A B : Type 0} {S : A → Type 0} {F : List ℕ → Type 0} {w : A → 
           let (small, here) = of .sound s a r e in
           (subst (λ (x : A). S x) back small, here ∙ rw (same, back) refl)
 
+-- ---- one of two kinds: the first finds nothing where the second is written
+
+-- each value is of one of the kinds
+abbrev pub Kinds : {A B C : Type 0} → (A → C) → (B → C) → Type 0
+Kinds {A} {B} {C} h k = (c : C) → ((a : A) × (h a ≡ c)) ⊎ ((b : B) × (k b ≡ c))
+
+module _ {A B C : Type 0} {S : C → Type 0} {w : C → List ℕ} {F G : List ℕ → Type 0} {f : Reader A} {g : Reader B} (h : A → C) (k : B → C) (kinds : Kinds h k)
+    (first : Format (λ a. S (h a)) F (λ a. w (h a)) f) (second : Format (λ b. S (k b)) G (λ b. w (k b)) g) where
+  pub format-one-of : ((b : B) (rest : List ℕ) → S (k b) → G rest → f (w (k b) ++ rest) ≡ nothing) → Format S (λ rest. F rest × G rest) w (oneOf h k f g)
+  unfolding oneOf
+  format-one-of apart = record { complete = λ c rest small follows. whole c rest small follows (kinds c); sound = λ s c rest e. go s c rest (f s) refl (g s) refl e }
+    where
+      Complete : C → List ℕ → Type 0
+      Complete c rest = orElse (f (w c ++ rest)) (λ a r. found (h a) r) (on (g (w c ++ rest)) (λ b r. found (k b) r)) ≡ found c rest
+
+      whole : (c : C) (rest : List ℕ) → S c → F rest × G rest → ((a : A) × (h a ≡ c)) ⊎ ((b : B) × (k b ≡ c)) → Complete c rest
+      whole c rest small follows (inl (a, is)) = subst (λ (c : C). S c → Complete c rest) is (λ small. rw (first .complete a rest small (follows .0)) refl) small
+      whole c rest small follows (inr (b, is)) =
+          subst (λ (c : C). S c → Complete c rest) is (λ small. rw (apart b rest small (follows .1), second .complete b rest small (follows .1)) refl) small
+
+      go : (s : List ℕ) (c : C) (rest : List ℕ) (o : Found A) → f s ≡ o → (o′ : Found B) → g s ≡ o′
+          → orElse o (λ a r. found (h a) r) (on o′ (λ b r. found (k b) r)) ≡ found c rest → S c × (s ≡ w c ++ rest)
+      go s c rest nothing e nothing e′ q = differ c rest q
+      go s c rest nothing e (found b r) e′ q =
+          let is : k b ≡ c = cc in
+          let same : r ≡ rest = cc in
+          subst (λ (c : C). S c × (s ≡ w c ++ rest)) is (second .sound s b rest (e′ ∙ ap (λ (l : List ℕ). found b l) same))
+      go s c rest (found a r) e o′ e′ q =
+          let is : h a ≡ c = cc in
+          let same : r ≡ rest = cc in
+          subst (λ (c : C). S c × (s ≡ w c ++ rest)) is (first .sound s a rest (e ∙ ap (λ (l : List ℕ). found a l) same))
+
 -- ---- the same format, said in other words
 
 module _ {A : Type 0} {S S′ : A → Type 0} {F F′ : List ℕ → Type 0} {w w′ : A → List ℕ} {f : Reader A} where
@@ -153,7 +193,7 @@ module _ {A : Type 0} {S S′ : A → Type 0} {F F′ : List ℕ → Type 0} {w 
         sound = λ s a rest e. let (small, is) = of .sound s a rest e in (up a small, rw (same a) is);
       }
 
--- ---- fixed bytes before or after a value
+-- ---- fixed bytes before or after a value; a value or no bytes
 
 module _ {A : Type 0} {S : A → Type 0} {F : List ℕ → Type 0} {w : A → List ℕ} {f : Reader A} where
   pub format-before : (x : List ℕ) → Format S F w f → Format S F (λ a. x ++ w a) (before x f)
@@ -165,6 +205,14 @@ module _ {A : Type 0} {S : A → Type 0} {F : List ℕ → Type 0} {w : A → Li
   format-closed x ends of =
       format-as (λ a small. (small, tt)) (λ a small. small .0) (λ rest follows. follows) (λ a. refl)
       (format-changed (λ p. p .0) (λ a. (a, tt)) (λ b. refl) (λ p. refl) (format-sequence of (format-fixed x) (λ b rest small follows. ends rest)))
+
+-- what is written where nothing is: no bytes
+module _ {A C : Type 0} {S : C → Type 0} {w : C → List ℕ} {F : List ℕ → Type 0} {f : Reader A} (h : A → C) (none : C) (kinds : Kinds h (λ (u : Unit {0}). none)) where
+  pub format-optional : S none → w none ≡ [] → Format (λ a. S (h a)) F (λ a. w (h a)) f → Format S (λ rest. F rest × (f rest ≡ nothing)) w (optional h none f)
+  format-optional small is of =
+      format-one-of h (λ u. none) kinds of
+      (format-as (λ u s. tt) (λ u s. small) (λ rest follows. follows) (λ u. is) (format-empty (λ rest. f rest ≡ nothing)))
+      (λ u rest s follows. rw is follows)
 
 -- ---- a whole text: it spells a value, or none
 
@@ -203,8 +251,9 @@ module _ {A : Type 0} {S : A → Type 0} {F : List ℕ → Type 0} {w : A → Li
           let z : _≡_ {A = ℕ} 0 1 = cc in
           omega arith)
 
-  -- no two values have the same text
-  pub format-injective : (a a′ : A) → S a → S a′ → w a ≡ w a′ → a ≡ a′
-  format-injective a a′ small small′ e =
-      let same : _≡_ {A = Found A} (found a []) (found a′ []) = sym (read-whole a (w a) small refl) ∙ read-whole a′ (w a) small′ e in
-      cc
+-- ---- a whole text that means another value than it spells, as a missing number that means 0
+
+module _ {A B C : Type 0} {Spells : A → Type 0} {Means : B → Type 0} (h : A → B) (k : B → C) (other : C) where
+  pub whole-means : ((a : A) → Spells a → Means (h a)) → ((b : B) → Means b → (a : A) × Spells a) → (o : C) → Whole Spells (λ a. k (h a)) other o → Whole Means k other o
+  whole-means up down _ (spelt a is) = spelt (h a) (up a is)
+  whole-means up down _ (unspelt none) = unspelt (λ b is. let (a, is′) = down b is in none a is′)

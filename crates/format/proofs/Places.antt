@@ -13,7 +13,7 @@ use Rattle.word.specs.Words.{endsWord}
 use Rattle.word.specs.Numbers.{numberOf}
 use Rattle.word.specs.declared.Numeral.{Numeral}
 use Rattle.word.specs.declared.Numeral.the-variants.{Value, Missing}
-use Rattle.format.specs.Readers.{Found, nothing, found, Reader, on, startsWith, number, fixed, sequence, changed, before, closed, whole}
+use Rattle.format.specs.Readers.{Found, nothing, found, Reader, on, startsWith, number, fixed, empty, sequence, changed, oneOf, before, closed, optional, whole}
 use Rattle.format.specs.Places.{Part, part, refused, Finds, Fails, Answers, reads, refuses, fixedPart, numberPart}
 use Rattle.format.specs.declared.FixedAt.{FixedAt}
 use Rattle.format.specs.declared.FixedAt.the-variants as FixedAt
@@ -60,6 +60,26 @@ module _ {A B : Type 0} {f : Reader A} {s : List ℕ} {at : ℕ} (h : A → B) w
   unfolding changed
   fails-changed of = record { none = λ from. rw (of .none from) refl }
 
+  -- and from what was found: the value that it stands for
+  pub finds-meant : {b : B} {next : ℕ} → Finds (changed h f) s at b next → (a : A) × ((h a ≡ b) × Finds f s at a next)
+  unfolding changed
+  finds-meant {b} {next} of = go (f (drop at s)) refl (of .same)
+    where
+      go : (o : Found A) → f (drop at s) ≡ o → on o (λ a rest. found (h a) rest) ≡ found b (drop next s) → (a : A) × ((h a ≡ b) × Finds f s at a next)
+      go nothing e q = absurd (let z : _≡_ {A = ℕ} 0 1 = cc in omega arith)
+      go (found a rest) e q =
+          let is : h a ≡ b = cc in
+          let same : rest ≡ drop next s = cc in
+          (a, (is, record { from = of .from; to = of .to; same = e ∙ ap (λ (l : List ℕ). found a l) same }))
+
+  pub fails-meant : Fails (changed h f) s at → Fails f s at
+  unfolding changed
+  fails-meant of = record { none = λ from. go (f (drop at s)) (of .none from) }
+    where
+      go : (o : Found A) → on o (λ a rest. found (h a) rest) ≡ nothing → o ≡ nothing
+      go nothing q = refl
+      go (found a rest) q = absurd (let z : _≡_ {A = ℕ} 0 1 = cc in omega arith)
+
 module _ {A B : Type 0} {f : Reader A} {g : Reader B} {s : List ℕ} {at : ℕ} {a : A} {next : ℕ} (first : Finds f s at a next) where
   pub finds-sequence : {b : B} {last : ℕ} → Finds g s next b last → Finds (sequence f g) s at (a, b) last
   unfolding sequence
@@ -74,6 +94,17 @@ module _ {A B : Type 0} {f : Reader A} {g : Reader B} {s : List ℕ} {at : ℕ} 
 pub fails-first : {A B : Type 0} {f : Reader A} {s : List ℕ} {at : ℕ} (g : Reader B) → Fails f s at → Fails (sequence f g) s at
 unfolding sequence
 fails-first g of = record { none = λ from. rw (of .none from) refl }
+
+-- ---- a value or no bytes
+
+module _ {A C : Type 0} {f : Reader A} {s : List ℕ} {at : ℕ} (h : A → C) (none : C) where
+  pub finds-given : {a : A} {next : ℕ} → Finds f s at a next → Finds (optional h none f) s at (h a) next
+  unfolding oneOf
+  finds-given of = record { from = of .from; to = of .to; same = rw (of .same) refl }
+
+  pub finds-missing : at ≤ length s → Fails f s at → Finds (optional h none f) s at none at
+  unfolding oneOf empty
+  finds-missing within of = record { from = within; to = within; same = rw (of .none within) refl }
 
 -- ---- fixed bytes before or after a value
 

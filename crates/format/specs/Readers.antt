@@ -24,6 +24,11 @@ abbrev pub on : {A B : Type 0} → Found A → (A → List ℕ → Found B) → 
 on nothing k = nothing
 on (found a rest) k = k a rest
 
+-- the first, or where it found nothing the second
+abbrev pub orElse : {A C : Type 0} → Found A → (A → List ℕ → Found C) → Found C → Found C
+orElse nothing k other = other
+orElse (found a rest) k other = k a rest
+
 -- whether the bytes w stand at the start of s
 unfoldable pub startsWith : List ℕ → List ℕ → Bool
 startsWith [] s = true
@@ -35,6 +40,10 @@ startsWith (b ∷ w) (c ∷ s) = pick (eqb b c) (startsWith w s) false
 -- the bytes w
 unfoldable pub fixed : List ℕ → Reader (Unit {0})
 fixed w s = pick (startsWith w s) (found tt (drop (length w) s)) nothing
+
+-- no bytes
+unfoldable pub empty : Reader (Unit {0})
+empty s = found tt s
 
 abbrev pub numberFound : Numeral → List ℕ → Found ℕ
 numberFound Missing rest = nothing
@@ -54,6 +63,10 @@ sequence f g s = on (f s) (λ a rest. on (g rest) (λ b rest′. found (a, b) re
 unfoldable pub changed : {A B : Type 0} → (A → B) → Reader A → Reader B
 changed h f s = on (f s) (λ a rest. found (h a) rest)
 
+-- one of two kinds of a value: the first, or the second where the first finds nothing
+unfoldable pub oneOf : {A B C : Type 0} → (A → C) → (B → C) → Reader A → Reader B → Reader C
+oneOf h k f g s = orElse (f s) (λ a rest. found (h a) rest) (on (g s) (λ b rest. found (k b) rest))
+
 -- the bytes w, and then a value
 abbrev pub before : {A : Type 0} → List ℕ → Reader A → Reader A
 before w f = changed (λ p. p .1) (sequence (fixed w) f)
@@ -61,6 +74,10 @@ before w f = changed (λ p. p .1) (sequence (fixed w) f)
 -- a value, and then the bytes w
 abbrev pub closed : {A : Type 0} → Reader A → List ℕ → Reader A
 closed f w = changed (λ p. p .0) (sequence f (fixed w))
+
+-- a value, or no bytes
+abbrev pub optional : {A C : Type 0} → (A → C) → C → Reader A → Reader C
+optional h none f = oneOf h (λ u. none) f empty
 
 -- ---- a whole text
 

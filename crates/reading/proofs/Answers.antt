@@ -5,7 +5,7 @@ use Prim.Native.Nat.{ℕ, _≤_, _<_}
 use mathlib.Core.Logic.{_↔_}
 use native.Mathlib.Omega.{arith}
 use mathlib.Core.Bool.{Bool, true, false}
-use mathlib.Core.List.{List, [], _∷_}
+use mathlib.Core.List.{List, []}
 use lib.ListN.{length}
 use lib.Dec.{ltb, lit≤}
 use borrow.Author.Tests.{lt-ltb, le-ltb, ltb-true, ltb-false}
@@ -14,11 +14,10 @@ use Rattle.format.proofs.Formats.{Whole, spelt, unspelt}
 use Rattle.answer.specs.declared.Answer.{Answer}
 use Rattle.answer.specs.declared.Answer.the-variants.{Refused, Judged}
 use Rattle.answer.specs.declared.Judgement.{Judgement}
-use Rattle.answer.proofs.Checks.{among-every}
 use Rattle.record.specs.declared.Record.{Record}
 use Rattle.record.specs.Right.{Right}
 use Rattle.record.specs.Answering.{recordAnswer}
-use Rattle.record.proofs.Right.{record-right, meets, refusal-ten, verdict-means}
+use Rattle.record.proofs.Right.{record-right, refusal-range, verdict-means}
 use Rattle.reading.specs.declared.Form.{Form}
 use Rattle.reading.specs.declared.Form.the-variants as Form
 use Rattle.reading.specs.Text.{Spells}
@@ -64,7 +63,7 @@ right-of l a e = rw e (answer-right l)
 
 -- a record is refused by no number below 6
 six : (c : Record) (a : Answer) → Right c a → (n : ℕ) → a ≡ Refused n → 6 ≤ n
-six c a r n e = among-every (λ m. 6 ≤ m) (6 ∷ 7 ∷ 8 ∷ 9 ∷ 10 ∷ []) n (meets c n (subst (Right c) e r)) (lit≤ tt, (lit≤ tt, (lit≤ tt, (lit≤ tt, (lit≤ tt, tt)))))
+six c a r n e = refusal-range c n (subst (Right c) e r) .0
 
 -- 4 only over 128 bytes
 right-four : (l : List ℕ) (a : Answer) → RightLine l a → a ≡ Refused 4 → 128 < length l
@@ -95,9 +94,9 @@ line-means l _ (too-long h) j e = absurd (let z : _≡_ {A = ℕ} 0 1 = cc in om
 line-means l _ (not-form h none) j e = absurd (let z : _≡_ {A = ℕ} 0 1 = cc in omega arith)
 line-means l _ (of-record c a h is right) j e = (c, (is, verdict-means c j (subst (Right c) e right)))
 
--- ---- the number of a refusal is at most 10
+-- ---- the number of a refusal is at most 11
 
-pub line-refusal : (l : List ℕ) (a : Answer) → RightLine l a → (n : ℕ) → a ≡ Refused n → n ≤ 10
+pub line-refusal : (l : List ℕ) (a : Answer) → RightLine l a → (n : ℕ) → a ≡ Refused n → n ≤ 11
 line-refusal l _ (too-long h) n e = let z : _≡_ {A = ℕ} 4 n = cc in omega arith
 line-refusal l _ (not-form h none) n e = let z : _≡_ {A = ℕ} 5 n = cc in omega arith
-line-refusal l _ (of-record c a h is right) n e = refusal-ten c n (subst (Right c) e right)
+line-refusal l _ (of-record c a h is right) n e = refusal-range c n (subst (Right c) e right) .1

@@ -3,46 +3,79 @@
 use mathlib.Core.Path.{_≡_, refl, sym, ap, _∙_}
 use Prim.Native.Nat.{ℕ}
 use native.Mathlib.Omega.{arith}
-use mathlib.Core.List.{List, [], _++_, append-assoc}
-use mathlib.Core.Logic.{_↔_}
+use mathlib.Core.List.{List, [], _++_, append-assoc, append-nil}
+use lib.Dec.{lit<}
+use mathlib.Core.Logic.{_↔_, inl, inr}
 use Rattle.text.specs.Bytes.{ascii, decimal}
-use Rattle.format.specs.Readers.{whole}
-use Rattle.format.proofs.Formats.{Format, Always, EndsWord, format-number, format-sequence, format-changed, format-as, format-before, format-closed, Whole, spelt, unspelt, none-whole, whole-none, whole-spells, read-whole, format-whole, format-injective}
-use Rattle.record.specs.declared.Wall.{Wall}
+use Rattle.text.specs.Slices.{upTo}
+use Rattle.word.specs.Numbers.{numberOf, plainStart}
+use Rattle.word.specs.declared.Numeral.{Numeral}
+use Rattle.word.specs.declared.Numeral.the-variants.{Value, Missing}
+use Rattle.format.specs.Readers.{nothing, startsWith, fixed, number, sequence, changed, whole}
+use Rattle.format.proofs.Formats.{Format, Kinds, Always, EndsWord, format-number, format-sequence, format-changed, format-as, format-before, format-closed, format-optional, Whole, spelt, unspelt, none-whole, whole-none, whole-spells, whole-means, read-whole, format-whole}
 use Rattle.record.specs.declared.Group.{Group}
 use Rattle.record.specs.declared.Record.{Record}
+use Rattle.record.specs.Limits.{withShortfall}
 use Rattle.reading.specs.declared.Form.{Form}
 use Rattle.reading.specs.declared.Form.the-variants.{Read, Refused}
-use Rattle.reading.specs.Text.{wallText, groupText, text, SmallNumber, SmallWall, SmallGroup, Small, Spells}
-use Rattle.reading.specs.Reading.{wallIn, groupIn, recordIn, spaced, wall, group, line, formOf}
+use Rattle.reading.specs.Text.{sevenText, groupText, shellText, text, textWithoutShortfall, SmallNumber, SmallGroup, Small, Spells}
+use Rattle.reading.specs.Reading.{Shown, wallIn, groupIn, recordIn, spaced, shortfall, shown, group, line, formOf}
 
 -- ---- the parts
 
 format-spaced : Format SmallNumber EndsWord (λ n. ascii " " ++ decimal n) spaced
 format-spaced = format-before (ascii " ") format-number
 
-pub format-wall : Format SmallWall EndsWord wallText wall
-unfolding wall
-format-wall =
-    format-as (λ w h. (h .0, (h .1, (h .2, (h .3, (h .4, (h .5, h .6)))))))
-    (λ w h. (h .0, h .1 .0, h .1 .1 .0, h .1 .1 .1 .0, h .1 .1 .1 .1 .0, h .1 .1 .1 .1 .1 .0, h .1 .1 .1 .1 .1 .1))
-    (λ rest follows. follows) (λ w. simp append-assoc)
-    (format-changed wallIn parts (λ w. refl) (λ p. refl)
+-- d after a space, or no bytes
+abbrev shortfallText : Numeral → List ℕ
+shortfallText (Value d) = ascii " " ++ decimal d
+shortfallText Missing = []
+
+abbrev SmallShortfall : Numeral → Type 0
+SmallShortfall (Value d) = SmallNumber d
+SmallShortfall Missing = Unit {0}
+
+-- what may stand after it: no further number
+abbrev AfterWall : List ℕ → Type 0
+AfterWall rest = EndsWord rest × (spaced rest ≡ nothing)
+
+format-shortfall : Format SmallShortfall AfterWall shortfallText shortfall
+unfolding shortfall
+format-shortfall = format-optional Value Missing kinds tt refl format-spaced
+  where
+    kinds : Kinds Value (λ (u : Unit {0}). Missing)
+    kinds (Value n) = inl (n, refl)
+    kinds Missing = inr (tt, refl)
+
+-- what a line shows of a wall
+abbrev SmallShown : Shown → Type 0
+SmallShown (r, (t, (l, (E, (fy, (edges, (a, d))))))) =
+    SmallNumber r × (SmallNumber t × (SmallNumber l × (SmallNumber E × (SmallNumber fy × (SmallNumber edges × (SmallNumber a × SmallShortfall d))))))
+
+abbrev shownText : Shown → List ℕ
+shownText p = sevenText (wallIn p) ++ shortfallText (p .1 .1 .1 .1 .1 .1 .1)
+
+format-shown : Format SmallShown AfterWall shownText shown
+unfolding shown
+format-shown =
+    format-as (λ p h. h) (λ p h. h) (λ rest follows. follows) (λ p. simp append-assoc)
     (format-sequence format-number
     (format-sequence format-spaced
     (format-sequence format-spaced
     (format-sequence format-spaced
     (format-sequence format-spaced
-    (format-sequence format-spaced format-spaced
+    (format-sequence format-spaced
+    (format-sequence format-spaced format-shortfall last)
     (λ b rest small follows. refl))
     (λ b rest small follows. refl))
     (λ b rest small follows. refl))
     (λ b rest small follows. refl))
     (λ b rest small follows. refl))
-    (λ b rest small follows. refl)))
+    (λ b rest small follows. refl))
   where
-    parts : Wall → ℕ × (ℕ × (ℕ × (ℕ × (ℕ × (ℕ × ℕ)))))
-    parts w = (w .radius, (w .thickness, (w .length, (w .modulus, (w .«yield_stress», (w .edges, w .imperfection))))))
+    last : (d : Numeral) (rest : List ℕ) → SmallShortfall d → AfterWall rest → EndsWord (shortfallText d ++ rest)
+    last (Value d) rest small follows = refl
+    last Missing rest small follows = follows .0
 
 -- a space stands before the group
 pub format-group : Format SmallGroup Always (λ g. ascii " " ++ groupText g) group
@@ -56,17 +89,50 @@ format-group =
 
 -- ---- the line
 
-pub format-line : Format Small Always text line
-unfolding line text Small
+abbrev SmallLine : Shown × Group → Type 0
+SmallLine p = SmallShown (p .0) × SmallGroup (p .1)
+
+abbrev lineText : Shown × Group → List ℕ
+lineText p = shellText (shownText (p .0)) (p .1)
+
+format-line : Format SmallLine Always lineText line
+unfolding line changed sequence fixed startsWith number upTo numberOf plainStart
 format-line =
-    format-as (λ c h. h) (λ c h. h) (λ rest follows. follows) (λ c. simp append-assoc)
-    (format-changed recordIn (λ c. (c .wall, c .group)) (λ c. refl) (λ p. refl)
-    (format-sequence (format-before (ascii "(shell ") format-wall) (format-closed (ascii ")") (λ rest. tt) format-group) (λ b rest small follows. refl)))
+    format-as (λ p h. h) (λ p h. h) (λ rest follows. follows) (λ p. simp append-assoc)
+    (format-sequence (format-before (ascii "(shell ") format-shown) (format-closed (ascii ")") (λ rest. tt) format-group) (λ b rest small follows. (refl, refl)))
+
+-- the numbers of a record, with such a shortfall shown
+abbrev numbers : Record → Numeral → Shown
+numbers c d = (c .wall .radius, (c .wall .thickness, (c .wall .length, (c .wall .modulus, (c .wall .«yield_stress», (c .wall .edges, (c .wall .imperfection, d)))))))
+
+module _ (l : List ℕ) where
+  abbrev Shows : Shown × Group → Type 0
+  Shows p = SmallLine p × (l ≡ lineText p)
+
+  -- a line spells the record of what it shows
+  spells-shown : (p : Shown × Group) → Shows p → Spells l (recordIn p)
+  unfolding Spells text textWithoutShortfall Small
+  spells-shown ((r, (t, (n, (E, (fy, (edges, (a, Value d))))))), g) ((s, s′), is) =
+      (((s .0, s .1 .0, s .1 .1 .0, s .1 .1 .1 .0, s .1 .1 .1 .1 .0, s .1 .1 .1 .1 .1 .0, s .1 .1 .1 .1 .1 .1 .0, s .1 .1 .1 .1 .1 .1 .1), s′), inl (is ∙ simp append-assoc))
+  spells-shown ((r, (t, (n, (E, (fy, (edges, (a, Missing))))))), g) ((s, s′), is) =
+      (((s .0, s .1 .0, s .1 .1 .0, s .1 .1 .1 .0, s .1 .1 .1 .1 .0, s .1 .1 .1 .1 .1 .0, s .1 .1 .1 .1 .1 .1 .0, lit< tt), s′), inr (refl, is ∙ simp (append-assoc, append-nil)))
+
+  -- and where it spells a record, it shows what means it
+  shows-spelt : (c : Record) → Spells l c → (p : Shown × Group) × (Shows p × (recordIn p ≡ c))
+  unfolding Spells text textWithoutShortfall Small
+  shows-spelt c (((r, t, n, E, fy, edges, a, d), s′), inl is) =
+      ((numbers c (Value (c .wall .shortfall)), c .group), ((((r, (t, (n, (E, (fy, (edges, (a, d))))))), s′), is ∙ simp append-assoc), refl))
+  shows-spelt c (((r, t, n, E, fy, edges, a, d), s′), inr (none, is)) = (
+    (numbers c Missing, c .group),
+    ((((r, (t, (n, (E, (fy, (edges, (a, tt))))))), s′), is ∙ simp (append-assoc, append-nil)), λ i. withShortfall (sym none i) c),
+  )
 
 -- the form of a line: either it spells a record and is read as it, or it spells none and is refused by 5
 pub form-right : (l : List ℕ) → Whole (Spells l) Read (Refused 5) (formOf l)
-unfolding Spells formOf
-form-right l = format-whole format-line tt Read (Refused 5) l
+unfolding formOf
+form-right l =
+    whole-means recordIn Read (Refused 5) (λ p is. spells-shown l p is) (λ c is. let (p, (shows, means)) = shows-spelt l c is in (p, shows)) (formOf l)
+    (format-whole format-line tt (λ p. Read (recordIn p)) (Refused 5) l)
 
 -- ---- what follows
 
@@ -78,8 +144,10 @@ same c d e = cc
 
 -- a line that spells a record is read as it
 pub read-text : (l : List ℕ) (c : Record) → Spells l c → formOf l ≡ Read c
-unfolding Spells formOf
-read-text l c is = ap (whole Read (Refused 5)) (read-whole format-line tt c l (is .0) (is .1))
+unfolding formOf
+read-text l c is =
+    let (p, ((small, same), means)) = shows-spelt l c is in
+    ap (whole (λ q. Read (recordIn q)) (Refused 5)) (read-whole format-line tt p l small same) ∙ ap Read means
 
 -- and only such a line is
 pub text-read : (l : List ℕ) (c : Record) → formOf l ≡ Read c → Spells l c
@@ -103,9 +171,11 @@ spells-once l c d is is′ = same c d (sym (read-text l c is) ∙ read-text l d 
 
 -- no two records have the same text
 pub text-injective : (c d : Record) → Small c → Small d → text c ≡ text d → c ≡ d
-text-injective c d small small′ e = format-injective format-line tt c d small small′ e
+unfolding Spells
+text-injective c d small small′ e = spells-once (text c) c d (small, inl refl) (small′, inl e)
 
 -- a blank line spells no record
 pub blank-spells : (c : Record) → Spells [] c → ⊥
-unfolding Spells text
-blank-spells c (small, e) = let z : _≡_ {A = ℕ} 0 1 = cc in omega arith
+unfolding Spells text textWithoutShortfall
+blank-spells c (small, inl e) = let z : _≡_ {A = ℕ} 0 1 = cc in omega arith
+blank-spells c (small, inr (zero, e)) = let z : _≡_ {A = ℕ} 0 1 = cc in omega arith

@@ -1,3 +1,4 @@
 pub mod Inverse
 pub mod Answers
 pub mod Unique
+pub mod Shortfall

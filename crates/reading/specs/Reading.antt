@@ -2,7 +2,9 @@
 use Prim.Native.Nat.{ℕ}
 use mathlib.Core.List.{List}
 use Rattle.text.specs.Bytes.{ascii}
-use Rattle.format.specs.Readers.{Reader, number, sequence, changed, before, closed, whole}
+use Rattle.word.specs.declared.Numeral.{Numeral}
+use Rattle.word.specs.declared.Numeral.the-variants.{Value, Missing}
+use Rattle.format.specs.Readers.{Reader, number, sequence, changed, before, closed, optional, whole}
 use Rattle.record.specs.declared.Wall.{Wall}
 use Rattle.record.specs.declared.Group.{Group}
 use Rattle.record.specs.declared.Record.{Record}
@@ -11,7 +13,16 @@ use Rattle.reading.specs.declared.Form.the-variants.{Read, Refused}
 
 -- ---- a record of its parts in the order of a line
 
-abbrev pub wallIn : ℕ × (ℕ × (ℕ × (ℕ × (ℕ × (ℕ × ℕ))))) → Wall
+-- a number that may be missing, and then is 0
+abbrev pub orZero : Numeral → ℕ
+orZero (Value n) = n
+orZero Missing = 0
+
+-- what a line shows of a wall: seven numbers, and d or nothing
+abbrev pub Shown : Type 0
+Shown = ℕ × (ℕ × (ℕ × (ℕ × (ℕ × (ℕ × (ℕ × Numeral))))))
+
+abbrev pub wallIn : Shown → Wall
 wallIn p =
     record {
       radius = p .0;
@@ -20,14 +31,15 @@ wallIn p =
       modulus = p .1 .1 .1 .0;
       «yield_stress» = p .1 .1 .1 .1 .0;
       edges = p .1 .1 .1 .1 .1 .0;
-      imperfection = p .1 .1 .1 .1 .1 .1;
+      imperfection = p .1 .1 .1 .1 .1 .1 .0;
+      shortfall = orZero (p .1 .1 .1 .1 .1 .1 .1);
     }
 
 abbrev pub groupIn : ℕ × (ℕ × ℕ) → Group
 groupIn p = record { axial = p .0; ring = p .1 .0; shear = p .1 .1 }
 
-abbrev pub recordIn : Wall × Group → Record
-recordIn p = record { wall = p .0; group = p .1 }
+abbrev pub recordIn : Shown × Group → Record
+recordIn p = record { wall = wallIn (p .0); group = p .1 }
 
 -- ---- the readers
 
@@ -35,15 +47,19 @@ recordIn p = record { wall = p .0; group = p .1 }
 abbrev pub spaced : Reader ℕ
 spaced = before (ascii " ") number
 
-unfoldable pub wall : Reader Wall
-wall = changed wallIn (sequence number (sequence spaced (sequence spaced (sequence spaced (sequence spaced (sequence spaced spaced))))))
+-- d after a space, or no bytes
+unfoldable pub shortfall : Reader Numeral
+shortfall = optional Value Missing spaced
+
+unfoldable pub shown : Reader Shown
+shown = sequence number (sequence spaced (sequence spaced (sequence spaced (sequence spaced (sequence spaced (sequence spaced shortfall))))))
 
 -- a group after a space
 unfoldable pub group : Reader Group
 group = changed groupIn (sequence (before (ascii " (stress ") number) (sequence spaced (closed spaced (ascii ")"))))
 
-unfoldable pub line : Reader Record
-line = changed recordIn (sequence (before (ascii "(shell ") wall) (closed group (ascii ")")))
+unfoldable pub line : Reader (Shown × Group)
+line = sequence (before (ascii "(shell ") shown) (closed group (ascii ")"))
 
 unfoldable pub formOf : List ℕ → Form
-formOf l = whole Read (Refused 5) (line l)
+formOf l = whole (λ p. Read (recordIn p)) (Refused 5) (line l)

@@ -1,6 +1,7 @@
--- SCOPE 7.4 to 7.6: the line of a record.
+-- SCOPE 7.4 to 7.6, 20.1 and 20.2: the lines that spell a record.
 use Prim.Native.Nat.{ℕ, _<_}
 use mathlib.Core.Path.{_≡_}
+use mathlib.Core.Logic.{_⊎_}
 use mathlib.Core.List.{List, _++_}
 use Rattle.text.specs.Bytes.{ascii, decimal}
 use Rattle.record.specs.declared.Wall.{Wall}
@@ -8,8 +9,8 @@ use Rattle.record.specs.declared.Group.{Group}
 use Rattle.record.specs.declared.Record.{Record}
 
 -- r t l E fy edges a: one space between items, numbers in decimal without leading zeros
-abbrev pub wallText : Wall → List ℕ
-wallText w =
+abbrev pub sevenText : Wall → List ℕ
+sevenText w =
     decimal (w .radius)
     ++ ascii " " ++ decimal (w .thickness)
     ++ ascii " " ++ decimal (w .length)
@@ -18,13 +19,25 @@ wallText w =
     ++ ascii " " ++ decimal (w .edges)
     ++ ascii " " ++ decimal (w .imperfection)
 
+-- and d
+abbrev pub wallText : Wall → List ℕ
+wallText w = sevenText w ++ ascii " " ++ decimal (w .shortfall)
+
 -- (stress σx σφ τ)
 abbrev pub groupText : Group → List ℕ
 groupText g = ascii "(stress " ++ decimal (g .axial) ++ ascii " " ++ decimal (g .ring) ++ ascii " " ++ decimal (g .shear) ++ ascii ")"
 
--- (shell r t l E fy edges a (stress σx σφ τ))
+-- (shell NUMBERS (stress σx σφ τ))
+abbrev pub shellText : List ℕ → Group → List ℕ
+shellText numbers g = ascii "(shell " ++ numbers ++ ascii " " ++ groupText g ++ ascii ")"
+
+-- (shell r t l E fy edges a d (stress σx σφ τ))
 unfoldable pub text : Record → List ℕ
-text c = ascii "(shell " ++ wallText (c .wall) ++ ascii " " ++ groupText (c .group) ++ ascii ")"
+text c = shellText (wallText (c .wall)) (c .group)
+
+-- (shell r t l E fy edges a (stress σx σφ τ))
+unfoldable pub textWithoutShortfall : Record → List ℕ
+textWithoutShortfall c = shellText (sevenText (c .wall)) (c .group)
 
 -- ---- each number has at most 7 digits
 
@@ -40,6 +53,7 @@ SmallWall w =
     × SmallNumber (w .«yield_stress»)
     × SmallNumber (w .edges)
     × SmallNumber (w .imperfection)
+    × SmallNumber (w .shortfall)
 
 abbrev pub SmallGroup : Group → Type 0
 SmallGroup g = SmallNumber (g .axial) × SmallNumber (g .ring) × SmallNumber (g .shear)
@@ -47,7 +61,7 @@ SmallGroup g = SmallNumber (g .axial) × SmallNumber (g .ring) × SmallNumber (g
 unfoldable pub Small : Record → Type 0
 Small c = SmallWall (c .wall) × SmallGroup (c .group)
 
--- the line l spells the record c: it is the text of c, whose numbers have at most 7 digits
+-- the line l spells the record c, whose numbers have at most 7 digits: it is the text of c or, where d is 0, the text without d
 unfoldable pub Spells : List ℕ → Record → Type 0
-unfolding text Small
-Spells l c = Small c × (l ≡ text c)
+unfolding text textWithoutShortfall Small
+Spells l c = Small c × ((l ≡ text c) ⊎ ((c .wall .shortfall ≡ 0) × (l ≡ textWithoutShortfall c)))

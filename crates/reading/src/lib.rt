@@ -8,11 +8,12 @@ use record::Group;
 use record::Record;
 use record::Wall;
 ghost use mathlib.Core.Path.{_≡_};
+ghost use Rattle.format.specs.Readers.{changed};
 ghost use Rattle.format.specs.Places.{Answers, numberPart};
-ghost use Rattle.reading.specs.Reading.{spaced, wall, group, formOf};
+ghost use Rattle.reading.specs.Reading.{orZero, wallIn, spaced, shortfall, shown, group, formOf};
 ghost use Rattle.reading.specs.Parts.{wallPart, groupPart};
 
-// What a line is: the text of a record, or the line's refusal.
+// What a line is: one that spells a record, or the line's refusal.
 pub enum Form {
     Read(Record),
     Refused(u64),
@@ -36,9 +37,22 @@ fn spaced_at(line: &[u8], at: usize) -> NumberAt
     number_after(line, at, b" ")
 }
 
-// r t l E fy edges a
+// d after a space, or no bytes for a d of 0.
+fn shortfall_at(line: &[u8], at: usize) -> NumberAt
+    ensures { λ r. ⌜ Answers (changed orZero shortfall) (now (line .entry)) at (numberPart r) ⌝ }
+{
+    if line.len() < at {
+        return NumberAt::Refused(5);
+    }
+    let NumberAt::Read(shortfall, next) = spaced_at(line, at) else {
+        return NumberAt::Read(0, at);
+    };
+    NumberAt::Read(shortfall, next)
+}
+
+// r t l E fy edges a, and d where it is there
 fn wall_at(line: &[u8], at: usize) -> WallAt
-    ensures { λ r. ⌜ Answers wall (now (line .entry)) at (wallPart r) ⌝ }
+    ensures { λ r. ⌜ Answers (changed wallIn shown) (now (line .entry)) at (wallPart r) ⌝ }
 {
     let NumberAt::Read(radius, at) = number_at(line, at) else {
         return WallAt::Refused(5);
@@ -61,6 +75,9 @@ fn wall_at(line: &[u8], at: usize) -> WallAt
     let NumberAt::Read(imperfection, at) = spaced_at(line, at) else {
         return WallAt::Refused(5);
     };
+    let NumberAt::Read(shortfall, at) = shortfall_at(line, at) else {
+        return WallAt::Refused(5);
+    };
     let wall = Wall {
         radius,
         thickness,
@@ -69,6 +86,7 @@ fn wall_at(line: &[u8], at: usize) -> WallAt
         yield_stress,
         edges,
         imperfection,
+        shortfall,
     };
     WallAt::Read(wall, at)
 }

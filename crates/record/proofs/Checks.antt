@@ -5,13 +5,13 @@ use Prim.Native.Nat.{ℕ, _*_, _≤_}
 use native.Mathlib.Omega.{arith}
 use lib.Dec.{leb}
 use borrow.Author.Tests.{leb-true}
-use Rattle.algebra.proofs.Tests.{and-true}
+use Rattle.algebra.proofs.Tests.{and-true, pick-either}
 use Rattle.cylinder.specs.InLimits.{InLimits}
 use Rattle.answer.specs.Checks.{AllPassed}
 use Rattle.record.specs.declared.Wall.{Wall}
 use Rattle.record.specs.declared.Group.{Group}
 use Rattle.record.specs.declared.Record.{Record}
-use Rattle.record.specs.Limits.{fromTo, dimensions, material, stresses, inRange, checks, cylinderOf}
+use Rattle.record.specs.Limits.{fromTo, dimensions, material, stresses, inRange, shortfallCounts, effectiveWall, checks, cylinderOf}
 
 -- a number in its range
 pub record Between (low high x : ℕ) : Type 0 where
@@ -54,18 +54,24 @@ ranges c h =
       shear = leb-true (G .shear) 700000 z;
     }
 
+-- the effective wall
+pub effective-between : (w : Wall) → Between 100 10000 (w .thickness) → w .shortfall ≤ 50 → Between 150 20000 (effectiveWall w)
+effective-between w t d =
+    pick-either (Between 150 20000) (shortfallCounts w) (record { least = omega (arith, t .least, d); most = omega (arith, t .most) }) (record { least = omega (arith, t .least); most = omega (arith, t .most) })
+
 -- the cylinder of a record that passes every check is within the limits
 pub cylinder-within : (c : Record) → AllPassed (checks c) → InLimits (cylinderOf (c .wall))
-cylinder-within c (r, (e, (w, (l, (t, u))))) =
+cylinder-within c (r, (e, (d, (w, (l, (t, u)))))) =
     let W : Wall = c .wall in
     let rs = ranges c r in
-    let thick = between (20 * W .thickness) (2500 * W .thickness) (100 * W .radius) w in
+    let wall = effective-between W (rs .thickness) (leb-true (W .shortfall) 50 d) in
+    let thick = between (20 * effectiveWall W) (2500 * effectiveWall W) (200 * W .radius) w in
     let (short, long) = and-true (leb (W .radius) (20 * W .length)) (leb (W .length) (50 * W .radius)) l in
     record {
       radius-least = rs .radius .least;
       radius-most = rs .radius .most;
-      wall-least = omega (arith, rs .thickness .least);
-      wall-most = omega (arith, rs .thickness .most);
+      wall-least = wall .least;
+      wall-most = wall .most;
       length-least = rs .length .least;
       length-most = rs .length .most;
       modulus-least = rs .modulus .least;

@@ -2,3 +2,4 @@ pub mod Checks
 pub mod Loads
 pub mod Right
 pub mod Trial
+pub mod Shortfall

@@ -41,12 +41,13 @@ unfolding recordAnswer
 record-right c = Right.answer-by-right (checks c) (Bounds c) (judgementOfRecord c) refl (bounds-right c)
 
 module _ (c : Record) where
-  -- SCOPE 11.6: no other refusal than 6 to 10
-  pub meets : (n : ℕ) → Right c (Refused n) → Among n (6 ∷ 7 ∷ 8 ∷ 9 ∷ 10 ∷ [])
+  -- SCOPE 11.6 and 20.7: no other refusal than 6 to 11
+  pub meets : (n : ℕ) → Right c (Refused n) → Among n (6 ∷ 7 ∷ 11 ∷ 8 ∷ 9 ∷ 10 ∷ [])
   meets n r = Right.refused-among (checks c) (Bounds c) n r
 
-  pub refusal-ten : (n : ℕ) → Right c (Refused n) → n ≤ 10
-  refusal-ten n r = among-every (λ m. m ≤ 10) (6 ∷ 7 ∷ 8 ∷ 9 ∷ 10 ∷ []) n (meets n r) (lit≤ tt, (lit≤ tt, (lit≤ tt, (lit≤ tt, (lit≤ tt, tt)))))
+  pub refusal-range : (n : ℕ) → Right c (Refused n) → (6 ≤ n) × (n ≤ 11)
+  refusal-range n r = among-every (λ m. (6 ≤ m) × (m ≤ 11)) (6 ∷ 7 ∷ 11 ∷ 8 ∷ 9 ∷ 10 ∷ []) n (meets n r)
+      ((lit≤ tt, lit≤ tt), ((lit≤ tt, lit≤ tt), ((lit≤ tt, lit≤ tt), ((lit≤ tt, lit≤ tt), ((lit≤ tt, lit≤ tt), ((lit≤ tt, lit≤ tt), tt))))))
 
   -- L and U fit the number of an answer
   pub right-bounded : (a : Answer) → Right c a → Bounded a

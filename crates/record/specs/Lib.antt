@@ -1,6 +1,7 @@
--- To be believed, beside docs/SCOPE.md: Limits, Right, Trial.
+-- To be believed, beside docs/SCOPE.md: Limits, Right, Trial; and Nominal, for the laws that compare with a record without shortfall.
 pub mod Limits
 pub mod Right
 pub mod Trial
+pub mod Nominal
 -- Nobody has to believe it, how the program answers a record: `record-right` (proofs/Right.antt) says that the answer is right.
 pub mod Answering

@@ -1,8 +1,9 @@
--- SCOPE 2 and 10.6 to 10.10: the limits of a record, and its checks in their order.
-use Prim.Native.Nat.{ℕ, _*_}
+-- SCOPE 2, 10.6 to 10.11 and 20: the limits of a record, and its checks in their order.
+use Prim.Native.Nat.{ℕ, _*_, _-_}
 use mathlib.Core.Bool.{Bool, _&&_, _||_}
 use mathlib.Core.List.{List, [], _∷_}
-use lib.Dec.{leb, eqb}
+use lib.Dec.{leb, ltb, eqb}
+use Rattle.algebra.specs.Choice.{pick}
 use Rattle.answer.specs.Checks.{Check, check}
 use Rattle.record.specs.declared.Wall.{Wall}
 use Rattle.record.specs.declared.Group.{Group}
@@ -34,9 +35,24 @@ inRange c = dimensions (c .wall) && (material (c .wall) && stresses (c .group))
 abbrev pub edgesKnown : Wall → Bool
 edgesKnown w = eqb (w .edges) 11 || (eqb (w .edges) 12 || eqb (w .edges) 22)
 
--- ---- check 8: 20 t ≤ 100 r ≤ 2,500 t
+-- ---- check 11: d over 50
+abbrev pub shortfallAllowed : Wall → Bool
+shortfallAllowed w = leb (w .shortfall) 50
+
+-- ---- the effective wall in 200ths of a mm, element 306: t − d/2 where t is below 500, (24), else t. A wall that passes checks 6 and 11 is thicker than its
+-- shortfall, so the difference never stops at 0.
+abbrev pub shortfallCounts : Wall → Bool
+shortfallCounts w = ltb (w .thickness) 500
+
+abbrev pub effectiveWall : Wall → ℕ
+effectiveWall w = pick (shortfallCounts w) (2 * w .thickness - w .shortfall) (2 * w .thickness)
+
+-- ---- check 8: r, in 200ths of a mm too, is from 20 to 2,500 times such a thickness, and so of the effective wall
+abbrev pub ratioBy : ℕ → Wall → Bool
+ratioBy thick w = fromTo (20 * thick) (2500 * thick) (200 * w .radius)
+
 abbrev pub wallRatio : Wall → Bool
-wallRatio w = fromTo (20 * w .thickness) (2500 * w .thickness) (100 * w .radius)
+wallRatio w = ratioBy (effectiveWall w) w
 
 -- ---- check 9: r ≤ 20 l and l ≤ 50 r
 abbrev pub lengthRatio : Wall → Bool
@@ -51,14 +67,15 @@ abbrev pub checks : Record → List Check
 checks c =
     check 6 (inRange c)
     ∷ check 7 (edgesKnown (c .wall))
+    ∷ check 11 (shortfallAllowed (c .wall))
     ∷ check 8 (wallRatio (c .wall))
     ∷ check 9 (lengthRatio (c .wall))
     ∷ check 10 (tolerated (c .wall))
     ∷ []
 
--- ---- ten numbers in the order of a line
-abbrev pub recordOf : ℕ → ℕ → ℕ → ℕ → ℕ → ℕ → ℕ → ℕ → ℕ → ℕ → Record
-recordOf r t l E fy edges a σx σφ τ =
+-- ---- eleven numbers in the order of the call from C
+abbrev pub recordOf : ℕ → ℕ → ℕ → ℕ → ℕ → ℕ → ℕ → ℕ → ℕ → ℕ → ℕ → Record
+recordOf r t l E fy edges a σx σφ τ d =
     record {
       wall =
           record {
@@ -69,19 +86,41 @@ recordOf r t l E fy edges a σx σφ τ =
             «yield_stress» = fy;
             edges = edges;
             imperfection = a;
+            shortfall = d;
           };
       group = record { axial = σx; ring = σφ; shear = τ };
     }
 
--- ---- the cylinder of a wall: hundredths of a mm in 200ths
-abbrev pub cylinderOf : Wall → Cylinder
-cylinderOf w =
+-- ---- the cylinder of such a thickness, in 200ths of a mm, and that of the effective wall
+abbrev pub cylinderBy : ℕ → Wall → Cylinder
+cylinderBy thick w =
     record {
       radius = w .radius;
-      wall = 2 * w .thickness;
+      wall = thick;
       length = w .length;
       modulus = w .modulus;
       «yield_stress» = w .«yield_stress»;
       edges = w .edges;
       imperfection = w .imperfection;
+    }
+
+abbrev pub cylinderOf : Wall → Cylinder
+cylinderOf w = cylinderBy (effectiveWall w) w
+
+-- ---- a record with another shortfall
+abbrev pub withShortfall : ℕ → Record → Record
+withShortfall d c =
+    record {
+      wall =
+          record {
+            radius = c .wall .radius;
+            thickness = c .wall .thickness;
+            length = c .wall .length;
+            modulus = c .wall .modulus;
+            «yield_stress» = c .wall .«yield_stress»;
+            edges = c .wall .edges;
+            imperfection = c .wall .imperfection;
+            shortfall = d;
+          };
+      group = c .group;
     }

@@ -1,5 +1,6 @@
 -- SCOPE 6, 9.12 and 9.13: what is laid down of the answer to a record.
 use Prim.Native.Nat.{ℕ}
+use Rattle.cylinder.specs.declared.Cylinder.{Cylinder}
 use Rattle.cylinder.specs.Fraction.{whole}
 use Rattle.cylinder.specs.Exact.{AtMost, AtLeast, Encloses, Close}
 use Rattle.cylinder.specs.Sum.{Over}
@@ -8,17 +9,24 @@ use Rattle.answer.specs.declared.Verdict.the-variants.{Holds, Fails, Open}
 use Rattle.answer.specs.declared.Judgement.{Judgement}
 use Rattle.answer.specs.declared.Answer.{Answer}
 use Rattle.answer.specs.Right.{RightBy}
+use Rattle.record.specs.declared.Group.{Group}
 use Rattle.record.specs.declared.Record.{Record}
 use Rattle.record.specs.Limits.{checks, cylinderOf}
 
--- the exact sum of a record is over x/y
+-- the exact sum of a group on a cylinder is over x/y, and that of a record
+abbrev pub GroupOver : Cylinder → Group → ℕ → ℕ → Type 0
+GroupOver s g = Over s (whole (g .axial)) (whole (g .ring)) (whole (g .shear))
+
 abbrev pub RecordOver : Record → ℕ → ℕ → Type 0
-RecordOver c = Over (cylinderOf (c .wall)) (whole (c .group .axial)) (whole (c .group .ring)) (whole (c .group .shear))
+RecordOver c = GroupOver (cylinderOf (c .wall)) (c .group)
 
 -- L and U enclose the exact sum, and are close
-pub record Bounds (c : Record) (j : Judgement) : Type 0 where
-  pub encloses : Encloses (RecordOver c) (j .low) (j .high)
+pub record BoundsOf (Exceeds : ℕ → ℕ → Type 0) (j : Judgement) : Type 0 where
+  pub encloses : Encloses Exceeds (j .low) (j .high)
   pub close : Close (j .low) (j .high)
+
+abbrev pub Bounds : Record → Judgement → Type 0
+Bounds c = BoundsOf (RecordOver c)
 
 -- refused by the first check broken, or judged, with L and U that are right and the verdict of L and U
 abbrev pub Right : Record → Answer → Type 0

@@ -2,7 +2,7 @@
 ghost use mathlib.Core.Path.{_≡_};
 ghost use Prim.Native.Nat.{_*_, _≤_};
 ghost use Rattle.answer.specs.Checks.{AllPassed};
-ghost use Rattle.record.specs.Limits.{fromTo, inRange, dimensions, material, stresses, edgesKnown, wallRatio, lengthRatio, tolerated, checks, cylinderOf, recordOf};
+ghost use Rattle.record.specs.Limits.{fromTo, inRange, dimensions, material, stresses, edgesKnown, effectiveWall, wallRatio, lengthRatio, tolerated, checks, cylinderOf, recordOf};
 ghost use Rattle.record.specs.Right.{Right};
 ghost use Rattle.record.specs.Answering.{judgementOfRecord, recordAnswer};
 use answer::Answer;
@@ -26,6 +26,8 @@ pub struct Wall {
     pub edges: u64,
     // a, worst ratio of found to permitted imperfection, thousandths
     pub imperfection: u64,
+    // d, permitted shortfall of the thickness, hundredths of a mm
+    pub shortfall: u64,
 }
 
 // A stress group, kN/m², compression positive.
@@ -105,15 +107,30 @@ impl Wall {
         self.edges == Record::EDGES_FREE
     }
 
+    // The effective wall in 200ths of a mm.
+    fn effective_wall(self) -> u64
+        requires { ⌜ (self .thickness ≤ 10000) × (self .shortfall ≤ 2 * self .thickness) ⌝ }
+        ensures { λ r. ⌜ r ≡ effectiveWall self ⌝ }
+        ensures { λ r. ⌜ r ≤ 20000 ⌝ }
+    {
+        let nominal = 2 * self.thickness;
+        if self.thickness < Record::THICKNESS_AS_NOMINAL {
+            nominal - self.shortfall
+        } else {
+            nominal
+        }
+    }
+
     // Whether the wall passes check 8.
     fn has_wall_ratio(self) -> bool
-        requires { ⌜ (self .radius ≤ 50000) × (self .thickness ≤ 10000) ⌝ }
+        requires { ⌜ (self .radius ≤ 50000) × (self .thickness ≤ 10000) × (self .shortfall ≤ 2 * self .thickness) ⌝ }
         ensures { λ r. ⌜ r ≡ wallRatio self ⌝ }
     {
+        let wall = self.effective_wall();
         in_range(
-            100 * self.radius,
-            Record::THICKNESSES_LEAST * self.thickness,
-            Record::THICKNESSES_MOST * self.thickness,
+            200 * self.radius,
+            Record::THICKNESSES_LEAST * wall,
+            Record::THICKNESSES_MOST * wall,
         )
     }
 
@@ -129,14 +146,15 @@ impl Wall {
         }
     }
 
-    // The cylinder of a wall: hundredths of a mm in 200ths.
+    // The cylinder of a wall.
     fn cylinder(self) -> Cylinder
-        requires { ⌜ self .thickness ≤ 10000 ⌝ }
+        requires { ⌜ (self .thickness ≤ 10000) × (self .shortfall ≤ 2 * self .thickness) ⌝ }
         ensures { λ r. ⌜ r ≡ cylinderOf self ⌝ }
     {
+        let wall = self.effective_wall();
         Cylinder {
             radius: self.radius,
-            wall: 2 * self.thickness,
+            wall,
             length: self.length,
             modulus: self.modulus,
             yield_stress: self.yield_stress,
@@ -187,6 +205,11 @@ impl Record {
     pub const STRESS_MOST: u64 = 700000;
 
     pub const IMPERFECTION_MOST: u64 = 2000;
+
+    pub const SHORTFALL_MOST: u64 = 50;
+
+    // from this thickness up the effective wall is the nominal one
+    pub const THICKNESS_AS_NOMINAL: u64 = 500;
 
     // edges: both held axially, one, none
     pub const EDGES_HELD: u64 = 11;
@@ -248,6 +271,9 @@ impl Record {
         if !wall.has_known_edges() {
             return Answer::Refused(7);
         }
+        if Self::SHORTFALL_MOST < wall.shortfall {
+            return Answer::Refused(11);
+        }
         if !wall.has_wall_ratio() {
             return Answer::Refused(8);
         }
@@ -260,7 +286,7 @@ impl Record {
         Answer::Judged(self.judgement())
     }
 
-    // The answer to the record of ten numbers in the order of a line.
+    // The answer to the record of eleven numbers in the order of the call from C.
     pub fn judge(
         radius: u64,
         thickness: u64,
@@ -272,9 +298,10 @@ impl Record {
         axial: u64,
         ring: u64,
         shear: u64,
+        shortfall: u64,
     ) -> Answer
-        ensures { λ r. ⌜ r ≡ recordAnswer (recordOf radius thickness length modulus «yield_stress» edges imperfection axial ring shear) ⌝ }
-        ensures { λ r. ⌜ Right (recordOf radius thickness length modulus «yield_stress» edges imperfection axial ring shear) r ⌝ }
+        ensures { λ r. ⌜ r ≡ recordAnswer (recordOf radius thickness length modulus «yield_stress» edges imperfection axial ring shear shortfall) ⌝ }
+        ensures { λ r. ⌜ Right (recordOf radius thickness length modulus «yield_stress» edges imperfection axial ring shear shortfall) r ⌝ }
     {
         let wall = Wall {
             radius,
@@ -284,6 +311,7 @@ impl Record {
             yield_stress,
             edges,
             imperfection,
+            shortfall,
         };
         let group = Group { axial, ring, shear };
         let c = Record { wall, group };

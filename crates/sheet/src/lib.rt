@@ -49,6 +49,7 @@ pub fn answer(line: &[u8]) -> Answer
         g.axial,
         g.ring,
         g.shear,
+        w.shortfall,
     )
 }
 

@@ -1,4 +1,4 @@
-// Refusals 6 to 10 in words: what broke the check.
+// Refusals 6 to 11 in words: what broke the check.
 use crate::say::say;
 use crate::say::say_decimal;
 use crate::say::say_one;
@@ -91,7 +91,7 @@ fn say_edges(ok: bool, edges: u64) -> bool {
 
 // scale · x / y, cut to a whole number or, if `up`, raised to one; 0 where x or y is out of every range.
 fn ratio(scale: u64, x: u64, y: u64, up: bool) -> u64
-    requires { ⌜ scale ≤ 1000000 ⌝ }
+    requires { ⌜ scale ≤ 2000000 ⌝ }
 {
     if 10000000 < x {
         return 0;
@@ -109,16 +109,56 @@ fn ratio(scale: u64, x: u64, y: u64, up: bool) -> u64
     all / y
 }
 
-// 8: r/t with both in mm, rounded away from its limits.
-fn say_wall_ratio(ok: bool, r: u64, t: u64) -> bool {
+// 11
+fn say_shortfall(ok: bool, d: u64) -> bool {
+    say_two(
+        ok,
+        b"the shortfall d (hundredths of a mm) is %, over %",
+        d,
+        Record::SHORTFALL_MOST,
+    )
+}
+
+// What the effective wall lacks of the nominal one, 200ths of a mm.
+fn shortfall_counted(t: u64, d: u64) -> u64 {
+    if Record::THICKNESS_AS_NOMINAL <= t {
+        return 0;
+    }
+    d
+}
+
+// The effective wall, 200ths of a mm; 0 where t is out of every range or d is over it.
+fn effective_wall(t: u64, d: u64) -> u64 {
+    if 10000000 < t {
+        return 0;
+    }
+    let nominal = 2 * t;
+    let less = shortfall_counted(t, d);
+    if nominal < less {
+        return 0;
+    }
+    nominal - less
+}
+
+// r over a wall, both in mm, rounded away from its limits.
+fn say_radius_ratio(ok: bool, r: u64, wall: u64) -> bool {
     let ok = say(ok, b"r/t is ");
-    let low = ratio(1000000, r, t, false);
+    let low = ratio(2000000, r, wall, false);
     if low < 10000 * Record::THICKNESSES_LEAST {
         let ok = say_decimal(ok, low);
         return say(ok, b", below 20");
     }
-    let ok = say_decimal(ok, ratio(1000000, r, t, true));
+    let ok = say_decimal(ok, ratio(2000000, r, wall, true));
     say(ok, b", over 2500")
+}
+
+// 8
+fn say_wall_ratio(ok: bool, r: u64, t: u64, d: u64) -> bool {
+    let ok = say_radius_ratio(ok, r, effective_wall(t, d));
+    if shortfall_counted(t, d) == 0 {
+        return ok;
+    }
+    say(ok, b", with t less d/2")
 }
 
 // 9: l/r, rounded away from its limits.
@@ -150,9 +190,10 @@ pub(crate) fn say_check(ok: bool, n: u64, c: Record) -> bool {
     match n {
         6 => say_ranges(ok, w, g),
         7 => say_edges(ok, w.edges),
-        8 => say_wall_ratio(ok, w.radius, w.thickness),
+        8 => say_wall_ratio(ok, w.radius, w.thickness, w.shortfall),
         9 => say_length_ratio(ok, w.length, w.radius),
         10 => say_imperfection(ok, w.imperfection),
+        11 => say_shortfall(ok, w.shortfall),
         _ => say(ok, b"it breaks a check that has no words"),
     }
 }

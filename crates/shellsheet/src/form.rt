@@ -18,7 +18,7 @@ fn say_name(ok: bool, want: u8) -> bool {
     if want < 65 {
         return ok;
     }
-    say_piece(ok, b"r%t%l%E%fy%edges%a%sx%sphi%tau", (want - 65) as u64)
+    say_piece(ok, b"r%t%l%E%fy%edges%a%d%sx%sphi%tau", (want - 65) as u64)
 }
 
 // What the form wants: a number by its name, or a byte.
@@ -96,7 +96,7 @@ fn say_behind(ok: bool, line: &[u8], at: usize) -> bool {
     if line.len() <= at {
         return say(
             ok,
-            b"it is not of the form (shell r t l E fy edges a (stress sx sphi tau))",
+            b"it is not of the form (shell r t l E fy edges a d (stress sx sphi tau))",
         );
     }
     let ok = say_place(ok, at);

@@ -93,7 +93,25 @@ fn scan(line: &[u8], form: &[u8]) -> Stop {
     Stop::Behind(at)
 }
 
+// Whether a line that stopped so is one without a shortfall: no digit stands where H, the shortfall, would.
+fn lacks_shortfall(stop: Stop, line: &[u8]) -> bool {
+    let Stop::Expected(at, want) = stop else {
+        return false;
+    };
+    if want != b'H' {
+        return false;
+    }
+    if line.len() <= at {
+        return true;
+    }
+    !is_digit(line[at])
+}
+
 // Where `line` stops being of the form: this is the whole grammar, and `say_name` in form.rt has the names of A, B and so on.
 pub(crate) fn scan_line(line: &[u8]) -> Stop {
-    scan(line, b"(shell A B C D E F G (stress H I J))")
+    let stop = scan(line, b"(shell A B C D E F G H (stress I J K))");
+    if lacks_shortfall(stop, line) {
+        return scan(line, b"(shell A B C D E F G (stress I J K))");
+    }
+    stop
 }

@@ -1,10 +1,11 @@
 use borrow.Author.Needs.{needs}
 use Rattle.reading.proofs.read.Statement.{statement}
 use Rattle.reading.proofs.read.Tie as tie
-use mathlib.Core.Path.{ap}
-use Rattle.format.proofs.Places.{finds, fails, fixed-finds, fixed-fails, finds-changed, finds-sequence, finds-before, finds-closed, fails-changed, fails-first, fails-second, fails-start, fails-before, fails-closed, fails-end, whole-found, whole-more, whole-nothing}
+use mathlib.Core.Path.{sym, ap, _∙_}
+use Rattle.format.proofs.Places.{finds, fails, fixed-finds, fixed-fails, finds-meant, fails-meant, finds-sequence, finds-before, finds-closed, fails-first, fails-second, fails-start, fails-before, fails-closed, fails-end, whole-found, whole-more, whole-nothing}
+use Rattle.record.specs.declared.Wall.{Wall}
 use Rattle.reading.specs.declared.Form.the-variants.{Read, Refused}
-use Rattle.reading.specs.Reading.{line, formOf}
+use Rattle.reading.specs.Reading.{wallIn, recordIn, line, formOf}
 use Rattle.reading.specs.Parts.{wallPart, groupPart}
 
 slice-aggregate-fixed-at : tie.Need-slice-aggregate-fixed-at
@@ -22,8 +23,8 @@ enum-told c = search needs
 returns : tie.Need-returns
 unfolding formOf line
 returns c =
-    whole-nothing Read (Refused 5) (fails-changed _
-    (fails-first _ (fails-start _ _ (fixed-fails (c .before .before .fixed-at .ensures) (c .enum-told .given .1)))))
+    whole-nothing (λ p. Read (recordIn p)) (Refused 5)
+    (fails-first _ (fails-start _ _ (fixed-fails (c .before .before .fixed-at .ensures) (c .enum-told .given .1))))
 
 wall-at-requires : tie.Need-wall-at-requires
 wall-at-requires c κs = search needs
@@ -38,8 +39,8 @@ returns-2 : tie.Need-returns-2
 unfolding formOf line
 returns-2 c =
     let k1 = c .before .before .before in
-    whole-nothing Read (Refused 5) (fails-changed _
-    (fails-first _ (fails-before _ (fixed-finds (k1 .before .before .before .fixed-at .ensures) (k1 .before .at .given .1)) (fails (c .before .before .wall-at .ensures) (ap wallPart (c .enum-told2 .given .1))))))
+    whole-nothing (λ p. Read (recordIn p)) (Refused 5)
+    (fails-first _ (fails-before _ (fixed-finds (k1 .before .before .before .fixed-at .ensures) (k1 .before .at .given .1)) (fails-meant wallIn (fails (c .before .before .wall-at .ensures) (ap wallPart (c .enum-told2 .given .1))))))
 
 group-at-requires : tie.Need-group-at-requires
 group-at-requires c κs = search needs
@@ -55,9 +56,10 @@ unfolding formOf line
 returns-3 c =
     let k2 = c .before .before .before in
     let k1 = k2 .before .before .before .before in
-    whole-nothing Read (Refused 5) (fails-changed _
-    (fails-second (finds-before _ (fixed-finds (k1 .before .before .before .fixed-at .ensures) (k1 .before .at .given .1)) (finds (k2 .before .before .before .wall-at .ensures) (ap wallPart (k2 .before .wall .given .1))))
-    (fails-closed _ (fails (c .before .before .group-at .ensures) (ap groupPart (c .enum-told3 .given .1))))))
+    let (p, (is, shows)) = finds-meant wallIn (finds (k2 .before .before .before .wall-at .ensures) (ap wallPart (k2 .before .wall .given .1))) in
+    whole-nothing (λ p. Read (recordIn p)) (Refused 5)
+    (fails-second (finds-before _ (fixed-finds (k1 .before .before .before .fixed-at .ensures) (k1 .before .at .given .1)) shows)
+    (fails-closed _ (fails (c .before .before .group-at .ensures) (ap groupPart (c .enum-told3 .given .1)))))
 
 slice-aggregate-fixed-at-2 : tie.Need-slice-aggregate-fixed-at-2
 slice-aggregate-fixed-at-2 c = search needs
@@ -77,9 +79,10 @@ returns-4 c =
     let k3 = c .before .before .before .before in
     let k2 = k3 .before .before .before .before in
     let k1 = k2 .before .before .before .before in
-    whole-nothing Read (Refused 5) (fails-changed _
-    (fails-second (finds-before _ (fixed-finds (k1 .before .before .before .fixed-at .ensures) (k1 .before .at .given .1)) (finds (k2 .before .before .before .wall-at .ensures) (ap wallPart (k2 .before .wall .given .1))))
-    (fails-end _ (finds (k3 .before .before .before .group-at .ensures) (ap groupPart (k3 .before .group .given .1))) (fixed-fails (c .before .before .fixed-at2 .ensures) (c .enum-told4 .given .1)))))
+    let (p, (is, shows)) = finds-meant wallIn (finds (k2 .before .before .before .wall-at .ensures) (ap wallPart (k2 .before .wall .given .1))) in
+    whole-nothing (λ p. Read (recordIn p)) (Refused 5)
+    (fails-second (finds-before _ (fixed-finds (k1 .before .before .before .fixed-at .ensures) (k1 .before .at .given .1)) shows)
+    (fails-end _ (finds (k3 .before .before .before .group-at .ensures) (ap groupPart (k3 .before .group .given .1))) (fixed-fails (c .before .before .fixed-at2 .ensures) (c .enum-told4 .given .1))))
 
 returns-5 : tie.Need-returns-5
 unfolding formOf line
@@ -88,9 +91,10 @@ returns-5 c =
     let k3 = k4 .before .before .before .before .before in
     let k2 = k3 .before .before .before .before in
     let k1 = k2 .before .before .before .before in
-    whole-more Read (Refused 5) (finds-changed _
-    (finds-sequence (finds-before _ (fixed-finds (k1 .before .before .before .fixed-at .ensures) (k1 .before .at .given .1)) (finds (k2 .before .before .before .wall-at .ensures) (ap wallPart (k2 .before .wall .given .1))))
-    (finds-closed _ (finds (k3 .before .before .before .group-at .ensures) (ap groupPart (k3 .before .group .given .1))) (fixed-finds (k4 .before .before .before .fixed-at2 .ensures) (k4 .before .at2 .given .1)))))
+    let (p, (is, shows)) = finds-meant wallIn (finds (k2 .before .before .before .wall-at .ensures) (ap wallPart (k2 .before .wall .given .1))) in
+    whole-more (λ p. Read (recordIn p)) (Refused 5)
+    (finds-sequence (finds-before _ (fixed-finds (k1 .before .before .before .fixed-at .ensures) (k1 .before .at .given .1)) shows)
+    (finds-closed _ (finds (k3 .before .before .before .group-at .ensures) (ap groupPart (k3 .before .group .given .1))) (fixed-finds (k4 .before .before .before .fixed-at2 .ensures) (k4 .before .at2 .given .1))))
     (c .if1 .taken)
 
 returns-6 : tie.Need-returns-6
@@ -100,9 +104,10 @@ returns-6 c =
     let k3 = k4 .before .before .before .before .before in
     let k2 = k3 .before .before .before .before in
     let k1 = k2 .before .before .before .before in
-    whole-found Read (Refused 5) (finds-changed _
-    (finds-sequence (finds-before _ (fixed-finds (k1 .before .before .before .fixed-at .ensures) (k1 .before .at .given .1)) (finds (k2 .before .before .before .wall-at .ensures) (ap wallPart (k2 .before .wall .given .1))))
-    (finds-closed _ (finds (k3 .before .before .before .group-at .ensures) (ap groupPart (k3 .before .group .given .1))) (fixed-finds (k4 .before .before .before .fixed-at2 .ensures) (k4 .before .at2 .given .1)))))
+    let (p, (is, shows)) = finds-meant wallIn (finds (k2 .before .before .before .wall-at .ensures) (ap wallPart (k2 .before .wall .given .1))) in
+    ap (λ (w : Wall). Read (record { wall = w; group = k3 .before .group .given .0 .0 })) (sym is) ∙ whole-found (λ p. Read (recordIn p)) (Refused 5)
+    (finds-sequence (finds-before _ (fixed-finds (k1 .before .before .before .fixed-at .ensures) (k1 .before .at .given .1)) shows)
+    (finds-closed _ (finds (k3 .before .before .before .group-at .ensures) (ap groupPart (k3 .before .group .given .1))) (fixed-finds (k4 .before .before .before .fixed-at2 .ensures) (k4 .before .at2 .given .1))))
     (c .if1 .left)
 
 pub read-spec : {M : Type 1} → statement M

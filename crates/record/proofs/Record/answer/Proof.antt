@@ -4,6 +4,7 @@ use Rattle.record.proofs.Record.answer.Statement.{statement}
 use Rattle.record.proofs.Record.answer.Tie as tie
 use mathlib.Core.Path.{refl, sym, ap, _∙_}
 use mathlib.Core.Logic.{inl, inr}
+use native.Mathlib.Omega.{arith}
 use borrow.Author.Tests.{le-leb, lt-leb}
 use Rattle.answer.specs.declared.Answer.the-variants.{Refused, Judged}
 use Rattle.answer.proofs.Tests.{told-not, told-yes}
@@ -26,30 +27,34 @@ returns-2 : tie.Need-returns-2
 unfolding recordAnswer
 returns-2 c = sym (first-broken Refused _ (checks (c .before .before .before .before .before .args .self)) 7 (inr (told-yes (c .before .before .before .is-in-range .ensures) (c .before .before .if1 .left), inl (told-not (c .before .has-known-edges .ensures) (c .if2 .taken), refl))))
 
-has-wall-ratio-requires : tie.Need-has-wall-ratio-requires
-has-wall-ratio-requires c κs = let r = ranges (c .before .before .before .before .before .args .self) (told-yes (c .before .before .before .is-in-range .ensures) (c .before .before .if1 .left)) in (r .radius .most, r .thickness .most)
-
 returns-3 : tie.Need-returns-3
 unfolding recordAnswer
-returns-3 c = sym (first-broken Refused _ (checks (c .before .before .before .before .before .before .before .args .self)) 8 (inr (told-yes (c .before .before .before .before .before .is-in-range .ensures) (c .before .before .before .before .if1 .left), inr (told-yes (c .before .before .before .has-known-edges .ensures) (c .before .before .if2 .left), inl (told-not (c .before .has-wall-ratio .ensures) (c .if3 .taken), refl)))))
+returns-3 c = sym (first-broken Refused _ (checks (c .before .before .before .before .before .before .before .args .self)) 11 (inr (told-yes (c .before .before .before .before .before .is-in-range .ensures) (c .before .before .before .before .if1 .left), inr (told-yes (c .before .before .before .has-known-edges .ensures) (c .before .before .if2 .left), inl (lt-leb _ _ (c .if3 .taken), refl)))))
 
-has-length-ratio-requires : tie.Need-has-length-ratio-requires
-has-length-ratio-requires c κs = let r = ranges (c .before .before .before .before .before .before .before .args .self) (told-yes (c .before .before .before .before .before .is-in-range .ensures) (c .before .before .before .before .if1 .left)) in (r .radius .most, r .length .most)
+has-wall-ratio-requires : tie.Need-has-wall-ratio-requires
+has-wall-ratio-requires c κs = let r = ranges (c .before .before .before .before .before .before .before .args .self) (told-yes (c .before .before .before .before .before .is-in-range .ensures) (c .before .before .before .before .if1 .left)) in (r .radius .most, r .thickness .most, omega (arith, c .if3 .left, r .thickness .least))
 
 returns-4 : tie.Need-returns-4
 unfolding recordAnswer
-returns-4 c = sym (first-broken Refused _ (checks (c .before .before .before .before .before .before .before .before .before .args .self)) 9 (inr (told-yes (c .before .before .before .before .before .before .before .is-in-range .ensures) (c .before .before .before .before .before .before .if1 .left), inr (told-yes (c .before .before .before .before .before .has-known-edges .ensures) (c .before .before .before .before .if2 .left), inr (told-yes (c .before .before .before .has-wall-ratio .ensures) (c .before .before .if3 .left), inl (told-not (c .before .has-length-ratio .ensures) (c .if4 .taken), refl))))))
+returns-4 c = sym (first-broken Refused _ (checks (c .before .before .before .before .before .before .before .before .before .args .self)) 8 (inr (told-yes (c .before .before .before .before .before .before .before .is-in-range .ensures) (c .before .before .before .before .before .before .if1 .left), inr (told-yes (c .before .before .before .before .before .has-known-edges .ensures) (c .before .before .before .before .if2 .left), inr (le-leb _ _ (c .before .before .if3 .left), inl (told-not (c .before .has-wall-ratio .ensures) (c .if4 .taken), refl))))))
+
+has-length-ratio-requires : tie.Need-has-length-ratio-requires
+has-length-ratio-requires c κs = let r = ranges (c .before .before .before .before .before .before .before .before .before .args .self) (told-yes (c .before .before .before .before .before .before .before .is-in-range .ensures) (c .before .before .before .before .before .before .if1 .left)) in (r .radius .most, r .length .most)
 
 returns-5 : tie.Need-returns-5
 unfolding recordAnswer
-returns-5 c = sym (first-broken Refused _ (checks (c .before .before .before .before .before .before .before .before .before .before .before .args .self)) 10 (inr (told-yes (c .before .before .before .before .before .before .before .before .before .is-in-range .ensures) (c .before .before .before .before .before .before .before .before .if1 .left), inr (told-yes (c .before .before .before .before .before .before .before .has-known-edges .ensures) (c .before .before .before .before .before .before .if2 .left), inr (told-yes (c .before .before .before .before .before .has-wall-ratio .ensures) (c .before .before .before .before .if3 .left), inr (told-yes (c .before .before .before .has-length-ratio .ensures) (c .before .before .if4 .left), inl (lt-leb _ _ (c .if5 .taken), refl)))))))
-
-judgement-requires : tie.Need-judgement-requires
-judgement-requires c κs = (told-yes (c .before .before .before .before .before .before .before .before .before .is-in-range .ensures) (c .before .before .before .before .before .before .before .before .if1 .left), (told-yes (c .before .before .before .before .before .before .before .has-known-edges .ensures) (c .before .before .before .before .before .before .if2 .left), (told-yes (c .before .before .before .before .before .has-wall-ratio .ensures) (c .before .before .before .before .if3 .left), (told-yes (c .before .before .before .has-length-ratio .ensures) (c .before .before .if4 .left), (le-leb _ _ (c .if5 .left), tt)))))
+returns-5 c = sym (first-broken Refused _ (checks (c .before .before .before .before .before .before .before .before .before .before .before .args .self)) 9 (inr (told-yes (c .before .before .before .before .before .before .before .before .before .is-in-range .ensures) (c .before .before .before .before .before .before .before .before .if1 .left), inr (told-yes (c .before .before .before .before .before .before .before .has-known-edges .ensures) (c .before .before .before .before .before .before .if2 .left), inr (le-leb _ _ (c .before .before .before .before .if3 .left), inr (told-yes (c .before .before .before .has-wall-ratio .ensures) (c .before .before .if4 .left), inl (told-not (c .before .has-length-ratio .ensures) (c .if5 .taken), refl)))))))
 
 returns-6 : tie.Need-returns-6
 unfolding recordAnswer
-returns-6 c = ap Judged (c .judgement .ensures) ∙ sym (all-passed Refused _ (checks (c .before .before .before .before .before .before .before .before .before .before .before .before .args .self)) (told-yes (c .before .before .before .before .before .before .before .before .before .before .is-in-range .ensures) (c .before .before .before .before .before .before .before .before .before .if1 .left), (told-yes (c .before .before .before .before .before .before .before .before .has-known-edges .ensures) (c .before .before .before .before .before .before .before .if2 .left), (told-yes (c .before .before .before .before .before .before .has-wall-ratio .ensures) (c .before .before .before .before .before .if3 .left), (told-yes (c .before .before .before .before .has-length-ratio .ensures) (c .before .before .before .if4 .left), (le-leb _ _ (c .before .if5 .left), tt))))))
+returns-6 c = sym (first-broken Refused _ (checks (c .before .before .before .before .before .before .before .before .before .before .before .before .before .args .self)) 10 (inr (told-yes (c .before .before .before .before .before .before .before .before .before .before .before .is-in-range .ensures) (c .before .before .before .before .before .before .before .before .before .before .if1 .left), inr (told-yes (c .before .before .before .before .before .before .before .before .before .has-known-edges .ensures) (c .before .before .before .before .before .before .before .before .if2 .left), inr (le-leb _ _ (c .before .before .before .before .before .before .if3 .left), inr (told-yes (c .before .before .before .before .before .has-wall-ratio .ensures) (c .before .before .before .before .if4 .left), inr (told-yes (c .before .before .before .has-length-ratio .ensures) (c .before .before .if5 .left), inl (lt-leb _ _ (c .if6 .taken), refl))))))))
+
+judgement-requires : tie.Need-judgement-requires
+judgement-requires c κs = (told-yes (c .before .before .before .before .before .before .before .before .before .before .before .is-in-range .ensures) (c .before .before .before .before .before .before .before .before .before .before .if1 .left), (told-yes (c .before .before .before .before .before .before .before .before .before .has-known-edges .ensures) (c .before .before .before .before .before .before .before .before .if2 .left), (le-leb _ _ (c .before .before .before .before .before .before .if3 .left), (told-yes (c .before .before .before .before .before .has-wall-ratio .ensures) (c .before .before .before .before .if4 .left), (told-yes (c .before .before .before .has-length-ratio .ensures) (c .before .before .if5 .left), (le-leb _ _ (c .if6 .left), tt))))))
+
+returns-7 : tie.Need-returns-7
+unfolding recordAnswer
+returns-7 c = ap Judged (c .judgement .ensures) ∙ sym (all-passed Refused _ (checks (c .before .before .before .before .before .before .before .before .before .before .before .before .before .before .args .self)) (told-yes (c .before .before .before .before .before .before .before .before .before .before .before .before .is-in-range .ensures) (c .before .before .before .before .before .before .before .before .before .before .before .if1 .left), (told-yes (c .before .before .before .before .before .before .before .before .before .before .has-known-edges .ensures) (c .before .before .before .before .before .before .before .before .before .if2 .left), (le-leb _ _ (c .before .before .before .before .before .before .before .if3 .left), (told-yes (c .before .before .before .before .before .before .has-wall-ratio .ensures) (c .before .before .before .before .before .if4 .left), (told-yes (c .before .before .before .before .has-length-ratio .ensures) (c .before .before .before .if5 .left), (le-leb _ _ (c .before .if6 .left), tt)))))))
 
 pub answer-spec : {M : Type 1} → statement M
 answer-spec =
@@ -59,10 +64,11 @@ answer-spec =
     returns
     has-known-edges-requires
     returns-2
-    has-wall-ratio-requires
     returns-3
-    has-length-ratio-requires
+    has-wall-ratio-requires
     returns-4
+    has-length-ratio-requires
     returns-5
+    returns-6
     judgement-requires
-    returns-6)
+    returns-7)

@@ -5,6 +5,7 @@ use Rattle.record.proofs.Record.judgement.Tie as tie
 use mathlib.Core.Path.{_≡_, ap, _∙_}
 use native.Mathlib.Omega.{arith}
 use lib.Dec.{lit≤, lit<}
+use borrow.Author.Tests.{leb-true}
 use Rattle.cylinder.specs.Fraction.{whole, _//_}
 use Rattle.cylinder.specs.Search.{sumBounds}
 use Rattle.answer.specs.Answering.{judgementOf}
@@ -13,7 +14,7 @@ use Rattle.record.proofs.Checks.{ranges, cylinder-within}
 use Rattle.record.proofs.Loads.{load-small, bounds-are}
 
 cylinder-requires : tie.Need-cylinder-requires
-cylinder-requires c κs = ranges (c .before .before .args .self) (c .before .before .pre .0) .thickness .most
+cylinder-requires c κs = let p = c .before .before .pre in let t = ranges (c .before .before .args .self) (p .0) .thickness in (t .most, omega (arith, t .least, leb-true (c .before .before .args .self .wall .shortfall) 50 (p .1 .1 .0)))
 
 load-requires : tie.Need-load-requires
 load-requires c κs = search needs

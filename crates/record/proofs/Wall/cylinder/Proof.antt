@@ -1,14 +1,16 @@
 -- `record::Wall::cylinder` meets its contract. Assumes nothing.
-use mathlib.Core.Path.{refl}
+use mathlib.Core.Path.{ap}
+use Prim.Native.Nat.{ℕ}
 use borrow.Author.Needs.{needs}
+use Rattle.record.specs.Limits.{cylinderBy}
 use Rattle.record.proofs.Wall.cylinder.Statement.{statement}
 use Rattle.record.proofs.Wall.cylinder.Tie as tie
 
-mul-t2 : tie.Need-mul-t2
-mul-t2 c = search needs
+effective-wall-requires : tie.Need-effective-wall-requires
+effective-wall-requires c κs = search needs
 
 returns : tie.Need-returns
-returns c = refl
+returns c = ap (λ (x : ℕ). cylinderBy x (c .before .args .self)) (c .effective-wall .ensures .0)
 
 pub cylinder-spec : {M : Type 1} → statement M
-cylinder-spec = tie.close (tie.spec mul-t2 returns)
+cylinder-spec = tie.close (tie.spec effective-wall-requires returns)

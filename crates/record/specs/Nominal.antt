@@ -1,0 +1,46 @@
+-- What was laid down of a record before SCOPE 20, when it had no shortfall: checks 6 to 10, and the nominal wall in check 8 and in every formula. The laws
+-- of proofs/Shortfall.antt compare with it.
+use Prim.Native.Nat.{ℕ, _*_}
+use mathlib.Core.Bool.{Bool}
+use mathlib.Core.List.{List, [], _∷_}
+use Rattle.cylinder.specs.declared.Cylinder.{Cylinder}
+use Rattle.cylinder.specs.Search.{Pair, sumBounds}
+use Rattle.answer.specs.declared.Answer.{Answer}
+use Rattle.answer.specs.declared.Answer.the-variants.{Refused, Judged}
+use Rattle.answer.specs.Checks.{Check, check}
+use Rattle.answer.specs.Right.{RightBy}
+use Rattle.answer.specs.Answering.{firstOr, judgementOf}
+use Rattle.record.specs.declared.Wall.{Wall}
+use Rattle.record.specs.declared.Record.{Record}
+use Rattle.record.specs.Limits.{fromTo, inRange, edgesKnown, lengthRatio, tolerated, cylinderBy}
+use Rattle.record.specs.Right.{GroupOver, BoundsOf}
+use Rattle.record.specs.Answering.{groupBounds}
+
+-- check 8: 20 t ≤ 100 r ≤ 2,500 t
+abbrev pub nominalRatio : Wall → Bool
+nominalRatio w = fromTo (20 * w .thickness) (2500 * w .thickness) (100 * w .radius)
+
+abbrev pub nominalChecks : Record → List Check
+nominalChecks c =
+    check 6 (inRange c)
+    ∷ check 7 (edgesKnown (c .wall))
+    ∷ check 8 (nominalRatio (c .wall))
+    ∷ check 9 (lengthRatio (c .wall))
+    ∷ check 10 (tolerated (c .wall))
+    ∷ []
+
+-- the wall is t, in 200ths of a mm
+abbrev pub nominalCylinder : Wall → Cylinder
+nominalCylinder w = cylinderBy (2 * w .thickness) w
+
+abbrev pub NominalRight : Record → Answer → Type 0
+NominalRight c = RightBy (nominalChecks c) (BoundsOf (GroupOver (nominalCylinder (c .wall)) (c .group)))
+
+-- how the program answered, to be compared with `recordAnswer`; what is right does not need it
+unfoldable pub nominalBounds : Record → Pair
+unfolding sumBounds
+nominalBounds c = groupBounds (nominalCylinder (c .wall)) (c .group)
+
+unfoldable pub nominalAnswer : Record → Answer
+unfolding nominalBounds
+nominalAnswer c = firstOr Refused (Judged (judgementOf (nominalBounds c .low) (nominalBounds c .high))) (nominalChecks c)
