@@ -1,4 +1,5 @@
-/* Judges one steel shell, an unstiffened circular cylinder, to DIN 18800-4:2008-11. Link with -lshellsheet (pkg-config shellsheet).
+/* Judges one steel shell, an unstiffened circular cylinder, to DIN 18800-4:2008-11, and writes its line for a sheet. Link with -lshellsheet
+   (pkg-config shellsheet).
 
    UNITS: e and fy are in N/mm², but the three stresses are in kN/m²: 1 N/mm² is 1,000 kN/m². A stress passed in N/mm² is
    1,000 times too small, no check can notice it, and the shell holds. Round stresses and shortfalls up, and walls down.
@@ -13,11 +14,12 @@
 #ifndef SHELLSHEET_H
 #define SHELLSHEET_H
 
+#include <stddef.h>
 #include <stdint.h>
 
 /* The version, as two numbers and as text: "MAJOR.MINOR". It stands here alone: make reads it from these two lines. */
 #define SHELLSHEET_VERSION_MAJOR 0
-#define SHELLSHEET_VERSION_MINOR 2
+#define SHELLSHEET_VERSION_MINOR 3
 #define SHELLSHEET_VERSION SHELLSHEET_TEXT(SHELLSHEET_VERSION_MAJOR, SHELLSHEET_VERSION_MINOR)
 #define SHELLSHEET_TEXT(major, minor) SHELLSHEET_QUOTE(major) "." SHELLSHEET_QUOTE(minor)
 #define SHELLSHEET_QUOTE(number) #number
@@ -47,8 +49,30 @@ extern "C" {
 uint64_t shell_judge(uint64_t r, uint64_t t, uint64_t l, uint64_t e, uint64_t fy, uint64_t edges, uint64_t a,
                      uint64_t sx, uint64_t sphi, uint64_t tau, uint64_t d);
 
+/* Writes the line of one record, and a newline behind it, at the start of the room bytes from out on:
+
+       (shell r t l e fy edges a d (stress sx sphi tau))
+
+   The answer is the number of bytes put, 51 to 79, and the bytes behind them keep their values; or it is a refusal, 6 to 12, and every
+   byte keeps its value. A room below 128 is refused by 12, before any other check and also where the line would fit; 6 to 11 are those
+   of shell_judge. No zero byte is put behind the newline.
+
+   The numbers are those of shell_judge, in the same order and units, and any may be passed. Each is written as it is given: d also where
+   it is 0 or has no effect, a also below 1,000. So the line spells this record, and the program shellsheet answers it as shell_judge does.
+
+   It allocates nothing, keeps no state, changes no memory of the caller's but the bytes that it puts, and may be called by many threads at
+   once, each with a buffer of its own. It takes less than 16 KB of the calling thread's stack. */
+uint64_t shell_write(uint8_t *out, size_t room, uint64_t r, uint64_t t, uint64_t l, uint64_t e, uint64_t fy, uint64_t edges, uint64_t a,
+                     uint64_t sx, uint64_t sphi, uint64_t tau, uint64_t d);
+
+enum shell_bytes {
+    SHELL_ROOM = 128,    /* of a buffer for shell_write, at least */
+    SHELL_SHORTEST = 51  /* of a line with its newline, at least: a smaller answer is a refusal */
+};
+
 /* Why a record is refused: the first of these checks, in this order, that it breaks. */
 enum shell_refusals {
+    SHELL_REFUSED_ROOM = 12,         /* of shell_write only: the buffer has fewer than 128 bytes */
     SHELL_REFUSED_RANGE = 6,         /* r, t, l, e, fy or a stress is outside its range */
     SHELL_REFUSED_EDGES = 7,         /* edges are not 11, 12 or 22 */
     SHELL_REFUSED_SHORTFALL = 11,    /* d is over 50 */
@@ -63,9 +87,14 @@ enum shell_verdicts {
     SHELL_OPEN = 3    /* it is so near to 1 that L and U do not part it from 1 */
 };
 
-/* The refusal in an answer, or 0 if the record was judged. */
+/* The refusal in an answer, or 0 if the record was judged or written. */
 static inline unsigned shell_refusal(uint64_t answer) {
-    return answer < 10000000000u ? (unsigned)answer : 0;
+    return answer < SHELL_SHORTEST ? (unsigned)answer : 0;
+}
+
+/* The number of bytes that shell_write has put, or 0 if the record was refused. */
+static inline size_t shell_written(uint64_t answer) {
+    return answer >= SHELL_SHORTEST && answer <= SHELL_ROOM ? (size_t)answer : 0;
 }
 
 /* The verdict in an answer, or 0 if the record was refused. */
@@ -83,10 +112,11 @@ static inline unsigned shell_high(uint64_t answer) {
     return answer < 10000000000u ? 0 : (unsigned)(answer % 100000u);
 }
 
-/* An answer in words: "holds", "fails", "open", or why the record was refused. Constant text in English, never null; for a number
-   that is no answer of shell_judge's, "not an answer". */
+/* An answer in words: "holds", "fails", "open", "written", or why the record was refused. Constant text in English, never null; for a
+   number that is no answer of either function, "not an answer". */
 static inline const char *shell_reason(uint64_t answer) {
     switch (answer) {
+    case SHELL_REFUSED_ROOM: return "the buffer has fewer than 128 bytes";
     case SHELL_REFUSED_RANGE: return "radius, wall, length, modulus, yield stress or a stress is outside its range";
     case SHELL_REFUSED_EDGES: return "the edges are not 11, 12 or 22";
     case SHELL_REFUSED_SHORTFALL: return "the shortfall is over 50 hundredths of a mm";
@@ -95,6 +125,7 @@ static inline const char *shell_reason(uint64_t answer) {
     case SHELL_REFUSED_IMPERFECTION: return "the imperfection is over 2,000";
     default: break;
     }
+    if (shell_written(answer)) return "written";
     switch (shell_verdict(answer)) {
     case SHELL_HOLDS: return "holds";
     case SHELL_FAILS: return "fails";

@@ -1,5 +1,6 @@
-/* Judges the records on standard input, lines of eleven numbers, by one thread and then by 8 at once, each on a stack of its own that was
-   painted before. The answers have to be equal. Prints how far below its caller's frame shell_judge wrote: the stack it takes. */
+/* Judges and writes the records on standard input, lines of eleven numbers, by one thread and then by 8 at once, each on a stack of its own that was
+   painted before and into a buffer of its own. The answers have to be equal, and so has what is in the buffers. Prints how far below their caller's frame
+   the calls wrote: the stack they take. */
 #define _GNU_SOURCE
 #include <inttypes.h>
 #include <pthread.h>
@@ -11,19 +12,32 @@
 
 enum { THREADS = 8, ROUNDS = 100, MOST = 4096, STACK = 1 << 18, PAINT = 0xA5 };
 
-static uint64_t records[MOST][11], wanted[MOST];
+struct answers {
+    uint64_t judged, written;
+    uint8_t line[SHELL_ROOM];
+};
+
+static uint64_t records[MOST][11];
+static struct answers wanted[MOST];
 static size_t count;
 static pthread_barrier_t start;
 
 struct work {
     size_t first;              /* the record it starts with: each thread is at another one */
     size_t wrong;
-    uintptr_t frame;           /* where the frame of shell_judge's caller ends */
+    uintptr_t frame;           /* where the frame of the calls' caller ends */
     unsigned char *stack;
+    struct answers found;
 };
 
-static uint64_t judge(const uint64_t *v) {
-    return shell_judge(v[0], v[1], v[2], v[3], v[4], v[5], v[6], v[7], v[8], v[9], v[10]);
+static void ask(const uint64_t *v, struct answers *to) {
+    memset(to->line, PAINT, sizeof to->line);
+    to->judged = shell_judge(v[0], v[1], v[2], v[3], v[4], v[5], v[6], v[7], v[8], v[9], v[10]);
+    to->written = shell_write(to->line, sizeof to->line, v[0], v[1], v[2], v[3], v[4], v[5], v[6], v[7], v[8], v[9], v[10]);
+}
+
+static int same(const struct answers *x, const struct answers *y) {
+    return x->judged == y->judged && x->written == y->written && !memcmp(x->line, y->line, sizeof x->line);
 }
 
 static void *run(void *given) {
@@ -31,7 +45,8 @@ static void *run(void *given) {
     pthread_barrier_wait(&start);
     for (size_t k = 0; k < ROUNDS * count; k++) {
         size_t i = (w->first + k) % count;
-        w->wrong += judge(records[i]) != wanted[i];
+        ask(records[i], &w->found);
+        w->wrong += !same(&w->found, &wanted[i]);
     }
     w->frame = (uintptr_t)__builtin_frame_address(0);
     return NULL;
@@ -58,7 +73,7 @@ int main(void) {
         int i = 0;
         while (i < 11 && count < MOST && scanf("%" SCNu64, &records[count][i]) == 1) i++;
         if (i < 11) break;
-        wanted[count] = judge(records[count]);
+        ask(records[count], &wanted[count]);
     }
     if (!count || !feof(stdin)) return broken("not lines of eleven numbers, or too many");
     if (pthread_barrier_init(&start, NULL, THREADS) || pthread_attr_init(&attr)) return broken("no barrier");

@@ -20,11 +20,11 @@ use Rattle.listing.specs.Listing.{verdictWord, said, entry, entries, cou
 
 -- ---- bytes without a newline
 
-unfoldable plain : List ℕ → Bool
+unfoldable pub plain : List ℕ → Bool
 plain [] = true
 plain (b ∷ l) = pick (isNewline b) false (plain l)
 
-plain-append : (xs ys : List ℕ) → plain xs ≡ true → plain ys ≡ true → plain (xs ++ ys) ≡ true
+pub plain-append : (xs ys : List ℕ) → plain xs ≡ true → plain ys ≡ true → plain (xs ++ ys) ≡ true
 unfolding plain
 plain-append [] ys hx hy = hy
 plain-append (x ∷ xs) ys hx hy = go (isNewline x) refl (λ h. plain-append xs ys h hy)
@@ -34,7 +34,7 @@ plain-append (x ∷ xs) ys hx hy = go (isNewline x) refl (λ h. plain-append xs 
     go false e more = rw e (more (rw e at hx))
 
 -- a line with its newline before other bytes is cut off as a line
-lines-ended : (l s : List ℕ) → plain l ≡ true → lines (ended l ++ s) ≡ l ∷ lines s
+pub lines-ended : (l s : List ℕ) → plain l ≡ true → lines (ended l ++ s) ≡ l ∷ lines s
 unfolding plain lines onFirst
 lines-ended [] s h = refl
 lines-ended (b ∷ l) s h = go (isNewline b) refl (lines-ended l s)
@@ -56,7 +56,7 @@ digits-plain (suc steps) n = go (ltb n 10) (digits-plain steps (n / 10))
     go true more = digit-plain n
     go false more = plain-append (digits steps (n / 10)) _ more (digit-plain (n % 10))
 
-decimal-plain : (n : ℕ) → plain (decimal n) ≡ true
+pub decimal-plain : (n : ℕ) → plain (decimal n) ≡ true
 unfolding decimal
 decimal-plain n = digits-plain n n
 

@@ -1,13 +1,14 @@
 -- The ranges that the checks give. Assumes nothing.
 use mathlib.Core.Path.{_≡_}
 use mathlib.Core.Bool.{true, _&&_}
-use Prim.Native.Nat.{ℕ, _*_, _≤_}
+use Prim.Native.Nat.{ℕ, _*_, _≤_, _<_}
 use native.Mathlib.Omega.{arith}
-use lib.Dec.{leb}
+use lib.Dec.{leb, lit<}
 use borrow.Author.Tests.{leb-true}
 use Rattle.algebra.proofs.Tests.{and-true, pick-either}
 use Rattle.cylinder.specs.InLimits.{InLimits}
 use Rattle.answer.specs.Checks.{AllPassed}
+use Rattle.answer.proofs.Checks.{Every, numbers}
 use Rattle.record.specs.declared.Wall.{Wall}
 use Rattle.record.specs.declared.Group.{Group}
 use Rattle.record.specs.declared.Record.{Record}
@@ -84,3 +85,7 @@ cylinder-within c (r, (e, (d, (w, (l, (t, u)))))) =
       not-short = leb-true (W .radius) (20 * W .length) short;
       not-long = leb-true (W .length) (50 * W .radius) long;
     }
+
+-- no check of a record has the number 0
+pub above-none : (c : Record) → Every (λ m. 0 < m) (numbers (checks c))
+above-none c = (lit< tt, (lit< tt, (lit< tt, (lit< tt, (lit< tt, (lit< tt, tt))))))

@@ -2,6 +2,7 @@
 ghost use mathlib.Core.Path.{_≡_};
 ghost use Prim.Native.Nat.{_*_, _≤_};
 ghost use Rattle.answer.specs.Checks.{AllPassed};
+ghost use Rattle.answer.specs.Answering.{refusalBy};
 ghost use Rattle.record.specs.Limits.{fromTo, inRange, dimensions, material, stresses, edgesKnown, effectiveWall, wallRatio, lengthRatio, tolerated, checks, cylinderOf, recordOf};
 ghost use Rattle.record.specs.Right.{Right};
 ghost use Rattle.record.specs.Answering.{judgementOfRecord, recordAnswer};
@@ -260,28 +261,39 @@ impl Record {
         Judgement::by_bounds(b.low, b.high)
     }
 
+    // The number of the first check that the record breaks, 0 where it breaks none.
+    pub fn refusal(self) -> u64
+        ensures { λ r. ⌜ r ≡ refusalBy (checks self) ⌝ }
+    {
+        let wall = self.wall;
+        if !self.is_in_range() {
+            return 6;
+        }
+        if !wall.has_known_edges() {
+            return 7;
+        }
+        if Self::SHORTFALL_MOST < wall.shortfall {
+            return 11;
+        }
+        if !wall.has_wall_ratio() {
+            return 8;
+        }
+        if !wall.has_length_ratio() {
+            return 9;
+        }
+        if Self::IMPERFECTION_MOST < wall.imperfection {
+            return 10;
+        }
+        0
+    }
+
     // The answer to a record: the number of the first check that it breaks, or the judgement.
     fn answer(self) -> Answer
         ensures { λ r. ⌜ r ≡ recordAnswer self ⌝ }
     {
-        let wall = self.wall;
-        if !self.is_in_range() {
-            return Answer::Refused(6);
-        }
-        if !wall.has_known_edges() {
-            return Answer::Refused(7);
-        }
-        if Self::SHORTFALL_MOST < wall.shortfall {
-            return Answer::Refused(11);
-        }
-        if !wall.has_wall_ratio() {
-            return Answer::Refused(8);
-        }
-        if !wall.has_length_ratio() {
-            return Answer::Refused(9);
-        }
-        if Self::IMPERFECTION_MOST < wall.imperfection {
-            return Answer::Refused(10);
+        let n = self.refusal();
+        if 0 < n {
+            return Answer::Refused(n);
         }
         Answer::Judged(self.judgement())
     }

@@ -1,0 +1,261 @@
+-- What the writer does is laid down so; what it puts is short enough, is one line, and reads as the record; and a line with a verdict is written again as it
+-- was, apart from a d that it lacks. Assumes nothing.
+use mathlib.Core.Path.{_≡_, refl, sym, _∙_, subst}
+use Prim.Native.Nat.{ℕ, suc, _+_, _≤_, _<_, _^_}
+use native.Mathlib.Omega.{arith}
+use mathlib.Core.Bool.{Bool, true, false, _||_}
+use mathlib.Core.Logic.{_↔_, _⊎_, inl, inr}
+use mathlib.Core.List.{List, [], _∷_, _++_, append-nil}
+use lib.ListN.{length, length-append}
+use lib.Dec.{ltb, eqb}
+use borrow.Author.Tests.{leb-true, le-leb, lt-leb, eqb-true, ltb-true, ltb-false}
+use Rattle.text.specs.Bytes.{ascii, decimal, lines}
+use Rattle.text.specs.Slices.{put}
+use Rattle.text.proofs.Laws.{decimal-one, decimal-length, decimal-below, put-all}
+use Rattle.algebra.proofs.Tests.{or-true}
+use Rattle.listing.proofs.Lines.{plain, plain-append, lines-ended, decimal-plain}
+use Rattle.answer.specs.Checks.{FirstBroken, AllPassed}
+use Rattle.answer.specs.declared.Answer.{Answer}
+use Rattle.answer.specs.declared.Answer.the-variants as Answer
+use Rattle.answer.specs.declared.Judgement.{Judgement}
+use Rattle.answer.specs.Right.{refused, judged}
+use Rattle.answer.proofs.Checks.{first-or, first-broken, all-passed, refusal-broken, refusal-none}
+use Rattle.record.specs.declared.Wall.{Wall}
+use Rattle.record.specs.declared.Group.{Group}
+use Rattle.record.specs.declared.Record.{Record}
+use Rattle.record.specs.Limits.{checks}
+use Rattle.record.specs.Right.{Right}
+use Rattle.record.specs.Answering.{recordAnswer}
+use Rattle.answer.specs.Answering.{refusalBy}
+use Rattle.record.proofs.Checks.{ranges, above-none}
+use Rattle.record.proofs.Right.{refusal-range}
+use Rattle.reading.specs.Text.{wallText, groupText, Small, text, textWithoutShortfall, Spells}
+use Rattle.reading.specs.Answers.{RightLine, too-long, not-form, of-record}
+use Rattle.reading.specs.Reading.{formOf}
+use Rattle.reading.specs.Answering.{answerTo}
+use Rattle.reading.specs.declared.Form.the-variants as Form
+use Rattle.reading.proofs.Inverse.{read-text, spells-once}
+use Rattle.reading.proofs.Answers.{answer-read}
+use Rattle.reading.proofs.Shortfall.{text-short}
+use Rattle.writer.specs.declared.Written.{Written}
+use Rattle.writer.specs.declared.Written.the-variants.{Put, Refused}
+use Rattle.writer.specs.Writing.{writerChecks, lineOf, startingWith, Writes, refuses, puts, writtenNumber}
+use Rattle.writer.specs.Writer.{writing}
+use Rattle.writer.proofs.Puts.{wall-length, group-length, line-length}
+
+-- ---- the answer and the buffer are as laid down
+
+pub writes : (c : Record) (out : List ℕ) → Writes c out (writing c out .1) (writing c out .0)
+unfolding writing
+writes c out = go (first-or (λ n. (Refused n, out)) (Put (length (lineOf c)), startingWith (lineOf c) out) (writerChecks (length out) c))
+  where
+    go : {w : Written × List ℕ} → ((n : ℕ) × (FirstBroken (writerChecks (length out) c) n × (w ≡ (Refused n, out))))
+        ⊎ (AllPassed (writerChecks (length out) c) × (w ≡ (Put (length (lineOf c)), startingWith (lineOf c) out))) → Writes c out (w .1) (w .0)
+    go (inl (n, (f, e))) = rw e (refuses n f refl)
+    go (inr (all, e)) = rw e (puts all refl)
+
+-- ---- a record that breaks no check has numbers of at most 7 digits
+
+-- from 10^k up a number has more than k digits
+digits-least : (k n : ℕ) → 10 ^ k ≤ n → suc k ≤ length (decimal n)
+digits-least k n h = go (ltb k (length (decimal n))) refl
+  where
+    go : (b : Bool) → ltb k (length (decimal n)) ≡ b → suc k ≤ length (decimal n)
+    go true e = ltb-true k (length (decimal n)) e
+    go false e = absurd (omega (arith, decimal-below k n (ltb-false k (length (decimal n)) e)))
+
+edges-between : (n : ℕ) → (eqb n 11 || (eqb n 12 || eqb n 22)) ≡ true → (10 ≤ n) × (n < 100)
+edges-between n h = go (or-true (eqb n 11) (eqb n 12 || eqb n 22) h)
+  where
+    more : (eqb n 12 ≡ true) ⊎ (eqb n 22 ≡ true) → (10 ≤ n) × (n < 100)
+    more (inl e) = (omega (arith, eqb-true n 12 e), omega (arith, eqb-true n 12 e))
+    more (inr e) = (omega (arith, eqb-true n 22 e), omega (arith, eqb-true n 22 e))
+
+    go : (eqb n 11 ≡ true) ⊎ ((eqb n 12 || eqb n 22) ≡ true) → (10 ≤ n) × (n < 100)
+    go (inl e) = (omega (arith, eqb-true n 11 e), omega (arith, eqb-true n 11 e))
+    go (inr e) = more (or-true (eqb n 12) (eqb n 22) e)
+
+pub passed-small : (c : Record) → AllPassed (checks c) → Small c
+unfolding Small
+passed-small c (r, (e, (d, (w, (l, (t, u)))))) =
+    let rs = ranges c r in (
+      (
+        omega (arith, rs .radius .most),
+        omega (arith, rs .thickness .most),
+        omega (arith, rs .length .most),
+        omega (arith, rs .modulus .most),
+        omega (arith, rs .yield .most),
+        omega (arith, edges-between (c .wall .edges) e .1),
+        omega (arith, leb-true (c .wall .imperfection) 2000 t),
+        omega (arith, leb-true (c .wall .shortfall) 50 d),
+      ),
+      (omega (arith, rs .axial), omega (arith, rs .ring), omega (arith, rs .shear)),
+    )
+
+decimal-some : (n : ℕ) → 1 ≤ length (decimal n)
+decimal-some n = go (ltb 0 (length (decimal n))) refl
+  where
+    go : (b : Bool) → ltb 0 (length (decimal n)) ≡ b → 1 ≤ length (decimal n)
+    go true e = ltb-true 0 (length (decimal n)) e
+    go false e =
+        let h = ltb-false 0 (length (decimal n)) e in
+        absurd (omega (arith, h, decimal-one n (omega (arith, decimal-below 0 n h))))
+
+-- ---- the line has no newline within it
+
+fixed-plain : (plain (ascii " ") ≡ true) × (plain (ascii ")") ≡ true) × (plain (ascii "(stress ") ≡ true) × (plain (ascii "(shell ") ≡ true)
+unfolding plain
+fixed-plain = (refl, refl, refl, refl)
+
+next-plain : (xs : List ℕ) (n : ℕ) → plain xs ≡ true → plain (xs ++ ascii " " ++ decimal n) ≡ true
+next-plain xs n h = plain-append (xs ++ ascii " ") (decimal n) (plain-append xs (ascii " ") h (fixed-plain .0)) (decimal-plain n)
+
+wall-plain : (w : Wall) → plain (wallText w) ≡ true
+wall-plain w = next-plain _ _ (next-plain _ _ (next-plain _ _ (next-plain _ _ (next-plain _ _ (next-plain _ _ (next-plain _ _ (decimal-plain (w .radius))))))))
+
+group-plain : (g : Group) → plain (groupText g) ≡ true
+group-plain g =
+    plain-append _ (ascii ")") (next-plain _ _ (next-plain _ _ (plain-append (ascii "(stress ") (decimal (g .axial)) (fixed-plain .2) (decimal-plain (g .axial))))) (fixed-plain .1)
+
+text-plain : (c : Record) → plain (text c) ≡ true
+unfolding text
+text-plain c =
+    plain-append _ (ascii ")")
+    (plain-append _ (groupText (c .group)) (plain-append _ (ascii " ") (plain-append (ascii "(shell ") (wallText (c .wall)) (fixed-plain .3) (wall-plain (c .wall))) (fixed-plain .0)) (group-plain (c .group)))
+    (fixed-plain .1)
+
+module _ (c : Record) (all : AllPassed (checks c)) where
+  -- ---- what is put
+
+  -- spells the record
+  pub line-spells : Spells (text c) c
+  unfolding Spells
+  line-spells = (passed-small c all, inl refl)
+
+  -- has at most 79 bytes, so that 128 are enough
+  pub line-short : length (lineOf c) ≤ 79
+  line-short =
+      let rs = ranges c (all .0) in
+      omega (
+        arith,
+        line-length c,
+        wall-length (c .wall),
+        group-length (c .group),
+        decimal-length 4 (c .wall .radius) (omega (arith, rs .radius .most)),
+        decimal-length 4 (c .wall .thickness) (omega (arith, rs .thickness .most)),
+        decimal-length 5 (c .wall .length) (omega (arith, rs .length .most)),
+        decimal-length 5 (c .wall .modulus) (omega (arith, rs .modulus .most)),
+        decimal-length 2 (c .wall .«yield_stress») (omega (arith, rs .yield .most)),
+        decimal-length 1 (c .wall .edges) (edges-between (c .wall .edges) (all .1 .0) .1),
+        decimal-length 3 (c .wall .imperfection) (omega (arith, leb-true (c .wall .imperfection) 2000 (all .1 .1 .1 .1 .1 .0))),
+        decimal-length 1 (c .wall .shortfall) (omega (arith, leb-true (c .wall .shortfall) 50 (all .1 .1 .0))),
+        decimal-length 5 (c .group .axial) (omega (arith, rs .axial)),
+        decimal-length 5 (c .group .ring) (omega (arith, rs .ring)),
+        decimal-length 5 (c .group .shear) (omega (arith, rs .shear)),
+      )
+
+  -- reads as the record
+  pub written-reads : formOf (text c) ≡ Form.Read c
+  written-reads = read-text (text c) c line-spells
+
+  -- and has the judge's answer to it
+  pub written-answer : answerTo (text c) ≡ recordAnswer c
+  written-answer = sym (answer-read (text c) (omega (arith, text-short c (passed-small c all))) (formOf (text c)) refl c written-reads (recordAnswer c) refl)
+
+  -- and so are the right answers to it those to the record
+  pub written-right : (a : Answer) → RightLine (text c) a ↔ Right c a
+  written-right a = (λ r. to a r, λ r. of-record c a (omega (arith, text-short c (passed-small c all))) line-spells r)
+    where
+      to : (a : Answer) → RightLine (text c) a → Right c a
+      to _ (too-long h) = absurd (omega (arith, h, text-short c (passed-small c all)))
+      to _ (not-form h none) = absurd (none c line-spells)
+      to _ (of-record d a h is right) = subst (λ (x : Record). Right x a) (spells-once (text c) d c is line-spells) right
+
+  -- and is put, where the buffer has room
+  pub line-put : (out : List ℕ) → 128 ≤ length out → writing c out ≡ (Put (length (lineOf c)), startingWith (lineOf c) out)
+  unfolding writing
+  line-put out room = all-passed (λ n. (Refused n, out)) _ (writerChecks (length out) c) (le-leb 128 (length out) room, all)
+
+  -- and has 51 bytes at least
+  pub line-long : 51 ≤ length (lineOf c)
+  unfolding text
+  line-long =
+      let rs = ranges c (all .0) in
+      omega (
+        arith,
+        line-length c,
+        wall-length (c .wall),
+        group-length (c .group),
+        digits-least 2 (c .wall .radius) (rs .radius .least),
+        digits-least 2 (c .wall .thickness) (rs .thickness .least),
+        digits-least 1 (c .wall .length) (rs .length .least),
+        digits-least 4 (c .wall .modulus) (omega (arith, rs .modulus .least)),
+        digits-least 2 (c .wall .«yield_stress») (rs .yield .least),
+        digits-least 1 (c .wall .edges) (edges-between (c .wall .edges) (all .1 .0) .0),
+        decimal-some (c .wall .imperfection),
+        decimal-some (c .wall .shortfall),
+        decimal-some (c .group .axial),
+        decimal-some (c .group .ring),
+        decimal-some (c .group .shear),
+      )
+
+  -- it is one line
+  pub line-one : lines (lineOf c) ≡ text c ∷ []
+  unfolding lines
+  line-one = subst (λ (l : List ℕ). lines l ≡ text c ∷ []) (append-nil (lineOf c)) (lines-ended (text c) [] (text-plain c))
+
+-- SCOPE 21.5: an answer that is laid down so has the number of a refusal, 12 at most, or of bytes put, 51 at least
+pub written-apart : (c : Record) (out out′ : List ℕ) (w : Written) → Writes c out out′ w → ((n : ℕ) → w ≡ Refused n → writtenNumber w ≤ 12) × ((n : ℕ) → w ≡ Put n → 51 ≤ writtenNumber w)
+written-apart c out out′ _ (refuses m f e) = (λ n q. below m f, λ n q. absurd (let z : _≡_ {A = ℕ} 0 1 = cc in omega arith))
+  where
+    below : (m : ℕ) → FirstBroken (writerChecks (length out) c) m → m ≤ 12
+    below m (inl (f, is)) = omega (arith, is)
+    below m (inr (t, f)) = omega (arith, refusal-range c m (refused m f) .1)
+written-apart c out out′ _ (puts (t, all) e) = (λ n q. absurd (let z : _≡_ {A = ℕ} 0 1 = cc in omega arith), λ n q. line-long c all)
+
+-- ---- a line with a verdict, written again: the same bytes and a newline, apart from a d that it lacks
+
+pub record Rewritten (l : List ℕ) : Type 0 where
+  pub record-of : Record
+  pub is-read : formOf l ≡ Form.Read record-of
+  pub same-text : (l ≡ text record-of) ⊎ ((record-of .wall .shortfall ≡ 0) × (l ≡ textWithoutShortfall record-of))
+  pub put-again : (out : List ℕ) → 128 ≤ length out → writing record-of out ≡ (Put (length (lineOf record-of)), startingWith (lineOf record-of) out)
+
+pub rewritten : (l : List ℕ) (j : Judgement) → RightLine l (Answer.Judged j) → Rewritten l
+unfolding Spells
+rewritten l j r = go (Answer.Judged j) r refl
+  where
+    of : (c : Record) → Right c (Answer.Judged j) → AllPassed (checks c)
+    of c (judged _ all b v) = all
+
+    go : (a : Answer) → RightLine l a → a ≡ Answer.Judged j → Rewritten l
+    go _ (too-long h) q = absurd (let z : _≡_ {A = ℕ} 0 1 = cc in omega arith)
+    go _ (not-form h none) q = absurd (let z : _≡_ {A = ℕ} 0 1 = cc in omega arith)
+    go _ (of-record c a h is right) q =
+        record { record-of = c; is-read = read-text l c is; same-text = is .1; put-again = λ out room. line-put c (of c (subst (Right c) q right)) out room }
+
+-- ---- for the code
+
+module _ (c : Record) (out : List ℕ) where
+  pub laid : (out′ : List ℕ) (r : Written) → _≡_ {A = Written × List ℕ} (r, out′) (writing c out) → Writes c out out′ r × _≡_ {A = Written × List ℕ} (r, out′) (writing c out)
+  laid out′ r e = (subst (λ (w : Written × List ℕ). Writes c out (w .1) (w .0)) (sym e) (writes c out), e)
+
+  pub writing-small : length out < 128 → (Refused 12, out) ≡ writing c out
+  unfolding writing
+  writing-small h = sym (first-broken (λ n. (Refused n, out)) _ (writerChecks (length out) c) 12 (inl (lt-leb 128 (length out) h, refl)))
+
+  module _ (room : 128 ≤ length out) (n : ℕ) (is : n ≡ refusalBy (checks c)) where
+    pub writing-refused : 0 < n → (Refused n, out) ≡ writing c out
+    unfolding writing
+    writing-refused pos =
+        sym (first-broken (λ n. (Refused n, out)) _ (writerChecks (length out) c) n (inr (le-leb 128 (length out) room, refusal-broken (checks c) (above-none c) n is pos)))
+
+    module _ (none : n ≤ 0) where
+      passed : AllPassed (checks c)
+      passed = refusal-none (checks c) (above-none c) n is none
+
+      pub writing-fits : length (lineOf c) ≤ length out
+      writing-fits = omega (arith, line-short c passed, room)
+
+      pub writing-put : (r : ℕ) (out′ : List ℕ) → r ≡ length (lineOf c) → out′ ≡ put out 0 (lineOf c) → _≡_ {A = Written × List ℕ} (Put r, out′) (writing c out)
+      writing-put r out′ e f = (λ i. (Put (e i), (f ∙ put-all out (lineOf c) writing-fits) i)) ∙ sym (line-put c passed out room)

@@ -1,0 +1,25 @@
+use borrow.Author.Needs.{needs}
+use native.Mathlib.Omega.{arith}
+use Rattle.text.proofs.Laws.{wrote-then}
+use Rattle.writer.proofs.put_spaced.Statement.{statement}
+use Rattle.writer.proofs.put_spaced.Tie as tie
+
+slice-aggregate-put-bytes : tie.Need-slice-aggregate-put-bytes
+slice-aggregate-put-bytes c = search needs
+
+put-bytes-requires : tie.Need-put-bytes-requires
+put-bytes-requires c κs = let s = c .before .before .before in omega (arith, s .pre)
+
+put-number-requires : tie.Need-put-number-requires
+put-number-requires c κs = let s = c .before .before .before .before .before .before .before in omega (arith, s .pre)
+
+same-length : tie.Need-same-length
+same-length c = search needs
+
+returns : tie.Need-returns
+returns c =
+    let w1 = wrote-then _ _ _ _ _ _ _ _ (c .before .before .before .before .before .before .put-bytes .ensures) (c .before .before .put-number .ensures) in
+    w1
+
+pub put-spaced-spec : {M : Type 1} → statement M
+put-spaced-spec = tie.close (tie.spec slice-aggregate-put-bytes put-bytes-requires put-number-requires same-length returns)

@@ -1,0 +1,20 @@
+-- How the program writes a record. Nobody has to believe this: `writes` (proofs/Laws.antt) says what `writing` gives.
+use Prim.Native.Nat.{ℕ}
+use mathlib.Core.List.{List, _++_}
+use lib.ListN.{length}
+use Rattle.text.specs.Bytes.{ascii, decimal}
+use Rattle.listing.specs.Listing.{spaced}
+use Rattle.answer.specs.Answering.{firstOr}
+use Rattle.record.specs.declared.Wall.{Wall}
+use Rattle.record.specs.declared.Record.{Record}
+use Rattle.writer.specs.declared.Written.{Written}
+use Rattle.writer.specs.declared.Written.the-variants.{Put, Refused}
+use Rattle.writer.specs.Writing.{writerChecks, lineOf, startingWith}
+
+-- r t l
+abbrev pub sizeText : Wall → List ℕ
+sizeText w = decimal (w .radius) ++ spaced (w .thickness) ++ spaced (w .length)
+
+-- the answer, and the buffer at exit
+unfoldable pub writing : Record → List ℕ → Written × List ℕ
+writing c out = firstOr (λ n. (Refused n, out)) (Put (length (lineOf c)), startingWith (lineOf c) out) (writerChecks (length out) c)

@@ -1,0 +1,45 @@
+-- SCOPE 10.12 and 21: the writer of a record's line: its checks in their order, what it leaves in the buffer, and the number of its answer.
+use Prim.Native.Nat.{ℕ}
+use mathlib.Core.Path.{_≡_}
+use mathlib.Core.List.{List, _∷_, _++_}
+use lib.ListN.{length, drop}
+use lib.Dec.{leb}
+use Rattle.answer.specs.Checks.{Check, check, FirstBroken, AllPassed}
+use Rattle.record.specs.declared.Record.{Record}
+use Rattle.record.specs.Limits.{checks}
+use Rattle.reading.specs.Text.{text}
+use Rattle.listing.specs.Listing.{ended}
+use Rattle.writer.specs.declared.Written.{Written}
+use Rattle.writer.specs.declared.Written.the-variants.{Put, Refused}
+
+-- a buffer has at least so many bytes
+abbrev pub roomLeast : ℕ
+roomLeast = 128
+
+-- check 12 of the buffer, and then those of the record
+abbrev pub writerChecks : ℕ → Record → List Check
+writerChecks room c = check 12 (leb roomLeast room) ∷ checks c
+
+-- the line of a record, with its newline
+abbrev pub lineOf : Record → List ℕ
+lineOf c = ended (text c)
+
+-- the buffer `out` with bytes at its start, and those past them as they were
+abbrev pub startingWith : List ℕ → List ℕ → List ℕ
+startingWith bytes out = bytes ++ drop (length bytes) out
+
+-- what is laid down of the answer, and of the buffer at exit: refused by the first check broken, and the buffer as it was; or the line is put
+pub data Writes (c : Record) (out out′ : List ℕ) : Written → Type 0 where
+  refuses : (n : ℕ) → FirstBroken (writerChecks (length out) c) n → out′ ≡ out → Writes c out out′ (Refused n)
+  puts : AllPassed (writerChecks (length out) c) → out′ ≡ startingWith (lineOf c) out → Writes c out out′ (Put (length (lineOf c)))
+
+-- the number of an answer: how many bytes are put, or the refusal
+abbrev pub writtenNumber : Written → ℕ
+writtenNumber (Put n) = n
+writtenNumber (Refused n) = n
+
+-- n is the number of an answer as it is laid down
+pub record NumberOfWriting (c : Record) (out out′ : List ℕ) (n : ℕ) : Type 0 where
+  pub answer : Written
+  pub is-right : Writes c out out′ answer
+  pub is-number : n ≡ writtenNumber answer

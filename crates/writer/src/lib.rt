@@ -1,0 +1,141 @@
+// Writes the line of a record (SCOPE 21).
+use record::Group;
+use record::Record;
+use record::Wall;
+use text::put_bytes;
+use text::put_number;
+ghost use mathlib.Core.Path.{_≡_};
+ghost use mathlib.Core.List.{List};
+ghost use Prim.Native.Nat.{ℕ, _+_, _≤_};
+ghost use lib.ListN.{length};
+ghost use Rattle.text.specs.Slices.{put};
+ghost use Rattle.record.specs.Limits.{recordOf};
+ghost use Rattle.reading.specs.Text.{wallText, groupText};
+ghost use Rattle.listing.specs.Listing.{spaced};
+ghost use Rattle.writer.specs.Writing.{lineOf, Writes, writtenNumber};
+ghost use Rattle.writer.specs.Writer.{sizeText, writing};
+ghost use Rattle.writer.specs.declared.Written.{Written};
+
+// What a writer answers: so many bytes put, or the number of the check that refused.
+pub enum Written {
+    Put(usize),
+    Refused(u64),
+}
+
+// A buffer of fewer bytes is refused by 12.
+const ROOM_LEAST: usize = 128;
+
+// A number after a space.
+fn put_spaced(out: &mut [u8], at: usize, n: u64) -> usize
+    requires { ⌜ at + length (spaced n) ≤ length (now out) ⌝ }
+    ensures { λ r. ⌜ r ≡ at + length (spaced n) ⌝ }
+    ensures { λ _. ⌜ now (out .exit) ≡ put (now (out .entry)) at (spaced n) ⌝ }
+{
+    let b = put_bytes(out, at, b" ");
+    put_number(out, b, n)
+}
+
+// r t l
+fn put_size(out: &mut [u8], at: usize, w: Wall) -> usize
+    requires { ⌜ at + length (sizeText w) ≤ length (now out) ⌝ }
+    ensures { λ r. ⌜ r ≡ at + length (sizeText w) ⌝ }
+    ensures { λ _. ⌜ now (out .exit) ≡ put (now (out .entry)) at (sizeText w) ⌝ }
+{
+    let at = put_number(out, at, w.radius);
+    let at = put_spaced(out, at, w.thickness);
+    put_spaced(out, at, w.length)
+}
+
+// r t l E fy edges a d
+fn put_wall(out: &mut [u8], at: usize, w: Wall) -> usize
+    requires { ⌜ at + length (wallText w) ≤ length (now out) ⌝ }
+    ensures { λ r. ⌜ r ≡ at + length (wallText w) ⌝ }
+    ensures { λ _. ⌜ now (out .exit) ≡ put (now (out .entry)) at (wallText w) ⌝ }
+{
+    let at = put_size(out, at, w);
+    let at = put_spaced(out, at, w.modulus);
+    let at = put_spaced(out, at, w.yield_stress);
+    let at = put_spaced(out, at, w.edges);
+    let at = put_spaced(out, at, w.imperfection);
+    put_spaced(out, at, w.shortfall)
+}
+
+// (stress σx σφ τ)
+fn put_group(out: &mut [u8], at: usize, g: Group) -> usize
+    requires { ⌜ at + length (groupText g) ≤ length (now out) ⌝ }
+    ensures { λ r. ⌜ r ≡ at + length (groupText g) ⌝ }
+    ensures { λ _. ⌜ now (out .exit) ≡ put (now (out .entry)) at (groupText g) ⌝ }
+{
+    let at = put_bytes(out, at, b"(stress ");
+    let at = put_number(out, at, g.axial);
+    let at = put_spaced(out, at, g.ring);
+    let at = put_spaced(out, at, g.shear);
+    put_bytes(out, at, b")")
+}
+
+// The line of a record, with its newline.
+fn put_line(out: &mut [u8], c: Record) -> usize
+    requires { ⌜ length (lineOf c) ≤ length (now out) ⌝ }
+    ensures { λ r. ⌜ r ≡ length (lineOf c) ⌝ }
+    ensures { λ _. ⌜ now (out .exit) ≡ put (now (out .entry)) 0 (lineOf c) ⌝ }
+{
+    let wall = c.wall;
+    let group = c.group;
+    let at = put_bytes(out, 0, b"(shell ");
+    let at = put_wall(out, at, wall);
+    let at = put_bytes(out, at, b" ");
+    let at = put_group(out, at, group);
+    put_bytes(out, at, b")\n")
+}
+
+// Puts the line of the record of eleven numbers, in the order of `Record::judge`, at the start of `out`.
+pub fn write(
+    out: &mut [u8],
+    radius: u64,
+    thickness: u64,
+    length: u64,
+    modulus: u64,
+    yield_stress: u64,
+    edges: u64,
+    imperfection: u64,
+    axial: u64,
+    ring: u64,
+    shear: u64,
+    shortfall: u64,
+) -> Written
+    ensures { λ r. ⌜ Writes (recordOf radius thickness length modulus «yield_stress» edges imperfection axial ring shear shortfall) (now (out .entry)) (now (out .exit)) r ⌝ }
+    ensures { λ r. ⌜ _≡_ {A = Written × List ℕ} (r, now (out .exit)) (writing (recordOf radius thickness length modulus «yield_stress» edges imperfection axial ring shear shortfall) (now (out .entry))) ⌝ }
+{
+    let wall = Wall {
+        radius,
+        thickness,
+        length,
+        modulus,
+        yield_stress,
+        edges,
+        imperfection,
+        shortfall,
+    };
+    let group = Group { axial, ring, shear };
+    let c = Record { wall, group };
+    if out.len() < ROOM_LEAST {
+        return Written::Refused(12);
+    }
+    let n = c.refusal();
+    if 0 < n {
+        return Written::Refused(n);
+    }
+    Written::Put(put_line(out, c))
+}
+
+impl Written {
+    // The number of an answer: the bytes put, or the refusal.
+    pub fn number(self) -> u64
+        ensures { λ r. ⌜ r ≡ writtenNumber self ⌝ }
+    {
+        match self {
+            Written::Put(n) => n as u64,
+            Written::Refused(n) => n,
+        }
+    }
+}

@@ -1,0 +1,31 @@
+/* Passes each case on standard input, "fill room" and eleven numbers, to shell_write, with a buffer of room bytes in the middle of a larger one that holds
+   (7 i + fill) mod 256 at place i. Prints the answer and, in hex, all of the larger one: AROUND bytes, the lent ones, AROUND bytes. */
+#include <inttypes.h>
+#include <stdio.h>
+#include <stdlib.h>
+#include "../include/shellsheet.h"
+
+enum { AROUND = 64, MOST = 1 << 20 };
+
+int main(void) {
+    static const char hex[] = "0123456789abcdef";
+    unsigned char *all = malloc(MOST + 2 * AROUND);
+    char *text = malloc(2 * (MOST + 2 * AROUND));
+    uint64_t v[13];
+    if (!all || !text) return 1;
+    for (;;) {
+        for (int i = 0; i < 13; i++)
+            if (scanf("%" SCNu64, &v[i]) != 1) return i != 0;
+        if (v[1] > MOST) return 1;
+        size_t room = (size_t)v[1], size = room + 2 * AROUND;
+        for (size_t i = 0; i < size; i++) all[i] = (unsigned char)(7 * i + v[0]);
+        uint64_t n = shell_write(all + AROUND, room, v[2], v[3], v[4], v[5], v[6], v[7], v[8], v[9], v[10], v[11], v[12]);
+        for (size_t i = 0; i < size; i++) {
+            text[2 * i] = hex[all[i] >> 4];
+            text[2 * i + 1] = hex[all[i] & 15];
+        }
+        printf("%" PRIu64 " ", n);
+        fwrite(text, 2, size, stdout);
+        putchar('\n');
+    }
+}
