@@ -9,14 +9,14 @@ use mathlib.Core.List.{List, [], _∷_, _++_, append-assoc}
 use lib.ListN.{length, getD}
 use lib.Dec.{ltb, eqb}
 use borrow.Author.Tests.{ne-eqb}
-use Rattle.text.specs.Bytes.{ascii, digits, decimal, isNewline, onFirst, lines}
+use Rattle.text.specs.Bytes.{ascii, digits, decimal, spaced, isNewline, onFirst, lines}
 use Rattle.algebra.specs.Choice.{pick}
 use Rattle.answer.specs.declared.Answer.{Answer}
 use Rattle.answer.specs.declared.Answer.the-variants.{Refused, Judged}
 use Rattle.answer.specs.declared.Verdict.{Verdict}
 use Rattle.answer.specs.declared.Verdict.the-variants.{Holds, Fails, Open}
 use Rattle.listing.specs.declared.Counts.{Counts}
-use Rattle.listing.specs.Listing.{verdictWord, said, entry, entries, counts, spaced, total, ended, joined, listingOf}
+use Rattle.listing.specs.Listing.{verdictWord, said, entry, entries, counts, total, ended, joined, listingOf}
 
 -- ---- bytes without a newline
 

@@ -4,7 +4,7 @@ use mathlib.Core.Bool.{Bool, true, false}
 use mathlib.Core.List.{List, [], _∷_, _++_}
 use lib.ListN.{length}
 use lib.Dec.{eqb}
-use Rattle.text.specs.Bytes.{ascii, decimal}
+use Rattle.text.specs.Bytes.{ascii, decimal, spaced}
 use Rattle.algebra.specs.Choice.{pick}
 use Rattle.answer.specs.declared.Answer.{Answer}
 use Rattle.answer.specs.declared.Answer.the-variants.{Refused, Judged}
@@ -65,9 +65,6 @@ counts answers =
 -- all counts 0
 abbrev pub noCounts : Counts
 noCounts = record { lines = 0; holds = 0; fails = 0; opens = 0; refused = 0 }
-
-abbrev pub spaced : ℕ → List ℕ
-spaced n = ascii " " ++ decimal n
 
 -- SCOPE 8.2: the total line
 unfoldable pub total : Counts → List ℕ

@@ -47,7 +47,7 @@ shortfallCounts w = ltb (w .thickness) 500
 abbrev pub effectiveWall : Wall → ℕ
 effectiveWall w = pick (shortfallCounts w) (2 * w .thickness - w .shortfall) (2 * w .thickness)
 
--- ---- check 8: r, in 200ths of a mm too, is from 20 to 2,500 times such a thickness, and so of the effective wall
+-- ---- check 8: r, in 200ths of a mm too, is from 20 to 2,500 times a thickness; for a wall that is the effective one
 abbrev pub ratioBy : ℕ → Wall → Bool
 ratioBy thick w = fromTo (20 * thick) (2500 * thick) (200 * w .radius)
 
@@ -91,7 +91,7 @@ recordOf r t l E fy edges a σx σφ τ d =
       group = record { axial = σx; ring = σφ; shear = τ };
     }
 
--- ---- the cylinder of such a thickness, in 200ths of a mm, and that of the effective wall
+-- ---- the cylinder of a wall, with a thickness in 200ths of a mm; for a wall that is the effective one
 abbrev pub cylinderBy : ℕ → Wall → Cylinder
 cylinderBy thick w =
     record {

@@ -1,22 +1,12 @@
 // Writes the total line of a listing.
 use listing::Counts;
 use text::put_bytes;
-use text::put_number;
+use text::put_spaced;
 ghost use mathlib.Core.Path.{_≡_};
 ghost use Prim.Native.Nat.{_+_, _≤_};
 ghost use lib.ListN.{length};
 ghost use Rattle.text.specs.Slices.{put};
-ghost use Rattle.listing.specs.Listing.{spaced, total, ended};
-
-// Writes a space and a number.
-fn put_spaced(out: &mut [u8], at: usize, n: u64) -> usize
-    requires { ⌜ at + length (spaced n) ≤ length (now out) ⌝ }
-    ensures { λ r. ⌜ r ≡ at + length (spaced n) ⌝ }
-    ensures { λ _. ⌜ now (out .exit) ≡ put (now (out .entry)) at (spaced n) ⌝ }
-{
-    let b = put_bytes(out, at, b" ");
-    put_number(out, b, n)
-}
+ghost use Rattle.listing.specs.Listing.{total, ended};
 
 // Writes the total line into `out` from `at`, and returns the index after it.
 pub fn put_total(out: &mut [u8], at: usize, c: Counts) -> usize

@@ -1,17 +1,17 @@
 -- What the writer does is laid down so; what it puts is short enough, is one line, and reads as the record; and a line with a verdict is written again as it
 -- was, apart from a d that it lacks. Assumes nothing.
 use mathlib.Core.Path.{_≡_, refl, sym, _∙_, subst}
-use Prim.Native.Nat.{ℕ, suc, _+_, _≤_, _<_, _^_}
+use Prim.Native.Nat.{ℕ, _+_, _≤_, _<_}
 use native.Mathlib.Omega.{arith}
-use mathlib.Core.Bool.{Bool, true, false, _||_}
+use mathlib.Core.Bool.{true, _||_}
 use mathlib.Core.Logic.{_↔_, _⊎_, inl, inr}
 use mathlib.Core.List.{List, [], _∷_, _++_, append-nil}
 use lib.ListN.{length, length-append}
-use lib.Dec.{ltb, eqb}
-use borrow.Author.Tests.{leb-true, le-leb, lt-leb, eqb-true, ltb-true, ltb-false}
+use lib.Dec.{eqb}
+use borrow.Author.Tests.{leb-true, le-leb, lt-leb, eqb-true}
 use Rattle.text.specs.Bytes.{ascii, decimal, lines}
 use Rattle.text.specs.Slices.{put}
-use Rattle.text.proofs.Laws.{decimal-one, decimal-length, decimal-below, put-all}
+use Rattle.text.proofs.Laws.{decimal-length, decimal-least, decimal-some, put-all}
 use Rattle.algebra.proofs.Tests.{or-true}
 use Rattle.listing.proofs.Lines.{plain, plain-append, lines-ended, decimal-plain}
 use Rattle.answer.specs.Checks.{FirstBroken, AllPassed}
@@ -56,14 +56,6 @@ writes c out = go (first-or (λ n. (Refused n, out)) (Put (length (lineOf c)), s
 
 -- ---- a record that breaks no check has numbers of at most 7 digits
 
--- from 10^k up a number has more than k digits
-digits-least : (k n : ℕ) → 10 ^ k ≤ n → suc k ≤ length (decimal n)
-digits-least k n h = go (ltb k (length (decimal n))) refl
-  where
-    go : (b : Bool) → ltb k (length (decimal n)) ≡ b → suc k ≤ length (decimal n)
-    go true e = ltb-true k (length (decimal n)) e
-    go false e = absurd (omega (arith, decimal-below k n (ltb-false k (length (decimal n)) e)))
-
 edges-between : (n : ℕ) → (eqb n 11 || (eqb n 12 || eqb n 22)) ≡ true → (10 ≤ n) × (n < 100)
 edges-between n h = go (or-true (eqb n 11) (eqb n 12 || eqb n 22) h)
   where
@@ -91,15 +83,6 @@ passed-small c (r, (e, (d, (w, (l, (t, u)))))) =
       ),
       (omega (arith, rs .axial), omega (arith, rs .ring), omega (arith, rs .shear)),
     )
-
-decimal-some : (n : ℕ) → 1 ≤ length (decimal n)
-decimal-some n = go (ltb 0 (length (decimal n))) refl
-  where
-    go : (b : Bool) → ltb 0 (length (decimal n)) ≡ b → 1 ≤ length (decimal n)
-    go true e = ltb-true 0 (length (decimal n)) e
-    go false e =
-        let h = ltb-false 0 (length (decimal n)) e in
-        absurd (omega (arith, h, decimal-one n (omega (arith, decimal-below 0 n h))))
 
 -- ---- the line has no newline within it
 
@@ -186,12 +169,12 @@ module _ (c : Record) (all : AllPassed (checks c)) where
         line-length c,
         wall-length (c .wall),
         group-length (c .group),
-        digits-least 2 (c .wall .radius) (rs .radius .least),
-        digits-least 2 (c .wall .thickness) (rs .thickness .least),
-        digits-least 1 (c .wall .length) (rs .length .least),
-        digits-least 4 (c .wall .modulus) (omega (arith, rs .modulus .least)),
-        digits-least 2 (c .wall .«yield_stress») (rs .yield .least),
-        digits-least 1 (c .wall .edges) (edges-between (c .wall .edges) (all .1 .0) .0),
+        decimal-least 2 (c .wall .radius) (rs .radius .least),
+        decimal-least 2 (c .wall .thickness) (rs .thickness .least),
+        decimal-least 1 (c .wall .length) (rs .length .least),
+        decimal-least 4 (c .wall .modulus) (omega (arith, rs .modulus .least)),
+        decimal-least 2 (c .wall .«yield_stress») (rs .yield .least),
+        decimal-least 1 (c .wall .edges) (edges-between (c .wall .edges) (all .1 .0) .0),
         decimal-some (c .wall .imperfection),
         decimal-some (c .wall .shortfall),
         decimal-some (c .group .axial),
@@ -211,7 +194,7 @@ written-apart c out out′ _ (refuses m f e) = (λ n q. below m f, λ n q. absur
     below : (m : ℕ) → FirstBroken (writerChecks (length out) c) m → m ≤ 12
     below m (inl (f, is)) = omega (arith, is)
     below m (inr (t, f)) = omega (arith, refusal-range c m (refused m f) .1)
-written-apart c out out′ _ (puts (t, all) e) = (λ n q. absurd (let z : _≡_ {A = ℕ} 0 1 = cc in omega arith), λ n q. line-long c all)
+written-apart c out out′ _ (puts (t, all) e) = (λ n q. absurd (let z : _≡_ {A = ℕ} 0 1 = cc in omega arith), λ n q. omega (arith, line-long c all))
 
 -- ---- a line with a verdict, written again: the same bytes and a newline, apart from a d that it lacks
 

@@ -4,13 +4,12 @@ use Prim.Native.Nat.{ℕ, _+_}
 use native.Mathlib.Omega.{arith}
 use mathlib.Core.List.{List, _++_, append-assoc}
 use lib.ListN.{length, length-append}
-use Rattle.text.specs.Bytes.{ascii, decimal}
+use Rattle.text.specs.Bytes.{ascii, decimal, spaced}
 use Rattle.text.proofs.Laws.{Wrote}
 use Rattle.record.specs.declared.Wall.{Wall}
 use Rattle.record.specs.declared.Group.{Group}
 use Rattle.record.specs.declared.Record.{Record}
 use Rattle.reading.specs.Text.{wallText, groupText, text}
-use Rattle.listing.specs.Listing.{spaced}
 use Rattle.writer.specs.Writing.{lineOf}
 use Rattle.writer.specs.Writer.{sizeText}
 

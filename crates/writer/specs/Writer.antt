@@ -2,8 +2,7 @@
 use Prim.Native.Nat.{ℕ}
 use mathlib.Core.List.{List, _++_}
 use lib.ListN.{length}
-use Rattle.text.specs.Bytes.{ascii, decimal}
-use Rattle.listing.specs.Listing.{spaced}
+use Rattle.text.specs.Bytes.{ascii, decimal, spaced}
 use Rattle.answer.specs.Answering.{firstOr}
 use Rattle.record.specs.declared.Wall.{Wall}
 use Rattle.record.specs.declared.Record.{Record}

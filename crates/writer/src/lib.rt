@@ -4,6 +4,7 @@ use record::Record;
 use record::Wall;
 use text::put_bytes;
 use text::put_number;
+use text::put_spaced;
 ghost use mathlib.Core.Path.{_≡_};
 ghost use mathlib.Core.List.{List};
 ghost use Prim.Native.Nat.{ℕ, _+_, _≤_};
@@ -11,7 +12,6 @@ ghost use lib.ListN.{length};
 ghost use Rattle.text.specs.Slices.{put};
 ghost use Rattle.record.specs.Limits.{recordOf};
 ghost use Rattle.reading.specs.Text.{wallText, groupText};
-ghost use Rattle.listing.specs.Listing.{spaced};
 ghost use Rattle.writer.specs.Writing.{lineOf, Writes, writtenNumber};
 ghost use Rattle.writer.specs.Writer.{sizeText, writing};
 ghost use Rattle.writer.specs.declared.Written.{Written};
@@ -24,16 +24,6 @@ pub enum Written {
 
 // A buffer of fewer bytes is refused by 12.
 const ROOM_LEAST: usize = 128;
-
-// A number after a space.
-fn put_spaced(out: &mut [u8], at: usize, n: u64) -> usize
-    requires { ⌜ at + length (spaced n) ≤ length (now out) ⌝ }
-    ensures { λ r. ⌜ r ≡ at + length (spaced n) ⌝ }
-    ensures { λ _. ⌜ now (out .exit) ≡ put (now (out .entry)) at (spaced n) ⌝ }
-{
-    let b = put_bytes(out, at, b" ");
-    put_number(out, b, n)
-}
 
 // r t l
 fn put_size(out: &mut [u8], at: usize, w: Wall) -> usize

@@ -1,7 +1,7 @@
 use borrow.Author.Needs.{needs}
-use Rattle.total.proofs.put_spaced.Statement.{statement}
-use Rattle.total.proofs.put_spaced.Tie as tie
+use Rattle.text.proofs.put_spaced.Statement.{statement}
+use Rattle.text.proofs.put_spaced.Tie as tie
 use Rattle.text.proofs.Laws.{wrote-then}
 
 slice-aggregate-put-bytes : tie.Need-slice-aggregate-put-bytes
 slice-aggregate-put-bytes c = search needs
@@ -16,7 +16,7 @@ same-length : tie.Need-same-length
 same-length c = search needs
 
 returns : tie.Need-returns
-returns c = wrote-then _ _ _ _ _ _ _ _ (c .before .before .before .before .before .before .put-bytes .ensures) (c .before .before .put-number .ensures)
+returns c = (search needs, wrote-then _ _ _ _ _ _ _ _ (c .before .before .before .before .before .before .put-bytes .ensures) (c .before .before .put-number .ensures) .1)
 
 pub put-spaced-spec : {M : Type 1} → statement M
 put-spaced-spec =
