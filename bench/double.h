@@ -1,9 +1,17 @@
-/* The sum as a shop would write it: plain doubles, no exactness. v holds the eleven numbers of a record within the limits, d the last. */
+/* The sum as a shop would write it, and the ring stress of wind: plain doubles, no exactness. v holds the eleven numbers of a record within the limits, d the
+   last. */
 #include <math.h>
 #include <stdint.h>
 
 static double tolerance(double S, double q) { return S < 1.5 ? 1 - S / 3 * (q - 1) : 1.5 - 0.5 * q; }
 static double kappa1(double S) { return S <= 0.4 ? 1 : S < 1.2 ? 1.274 - 0.686 * S : 0.65 / (S * S); }
+
+/* The whole ring stress of wind, in kN/m²; the ring stress of v is not read. */
+static inline double double_wind(const uint64_t *v, uint64_t w, uint64_t vented) {
+    double r = v[0], t = (v[1] < 500 ? v[1] - 0.5 * v[10] : v[1]) / 100.0, l = v[2], C = v[5] == 11 ? 1.5 : v[5] == 12 ? 1.25 : 1;
+    double delta = 0.46 * (1 + 0.1 * sqrt(C * (r / l) * sqrt(r / t)));
+    return ceil(((delta < 1 ? delta : 1) + (vented ? 0.6 : 0)) * w * (r / t) / 1000);
+}
 
 static double double_sum(const uint64_t *v) {
     double r = v[0], t = (v[1] < 500 ? v[1] - 0.5 * v[10] : v[1]) / 100.0, l = v[2], E = v[3], fy = v[4], q = v[6] > 1000 ? v[6] / 1000.0 : 1;

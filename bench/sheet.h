@@ -26,7 +26,7 @@ static int outside(uint64_t x, uint64_t low, uint64_t high) { return x < low || 
 
 /* The answer to a line: a refusal, HOLDS or FAILS. */
 static int double_answer(const unsigned char *at, const unsigned char *end) {
-    uint64_t v[11];
+    uint64_t v[11], w = 0, vented = 0;
     if (end - at > 128) return 4;
     at = fixed(at, end, "(shell ");
     for (int i = 0; i < 7; i++) at = number(i ? fixed(at, end, " ") : at, end, &v[i]);
@@ -34,7 +34,11 @@ static int double_answer(const unsigned char *at, const unsigned char *end) {
     v[10] = 0; /* a line without d */
     if (!group) group = fixed(number(fixed(at, end, " "), end, &v[10]), end, " (stress ");
     at = group;
-    for (int i = 7; i < 10; i++) at = fixed(number(at, end, &v[i]), end, i == 9 ? "))" : " ");
+    at = fixed(number(at, end, &v[7]), end, " ");
+    const unsigned char *wind = fixed(at, end, "(wind ");
+    v[8] = 0; /* a line with wind */
+    at = wind ? fixed(number(fixed(number(wind, end, &w), end, " "), end, &vented), end, ") ") : fixed(number(at, end, &v[8]), end, " ");
+    at = fixed(number(at, end, &v[9]), end, "))");
     if (at != end) return 5;
     if (outside(v[0], 100, 50000) || outside(v[1], 100, 10000) || outside(v[2], 10, 200000) || outside(v[3], 60000, 220000) ||
         outside(v[4], 100, 700) || v[7] > 700000 || v[8] > 700000 || v[9] > 700000)
@@ -45,6 +49,8 @@ static int double_answer(const unsigned char *at, const unsigned char *end) {
     if (outside(200 * v[0], 20 * wall, 2500 * wall)) return 8;
     if (v[0] > 20 * v[2] || v[2] > 50 * v[0]) return 9;
     if (v[6] > 2000) return 10;
+    if (w > 10000 || vented > 1) return 13;
+    if (wind) v[8] = (uint64_t)double_wind(v, w, vented);
     return double_sum(v) <= 1 ? HOLDS : FAILS;
 }
 

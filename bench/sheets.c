@@ -1,5 +1,6 @@
-/* Times the sheet run beside the double program, from the sheet in memory to the listing in memory, on the first 1, 4, 16, .. lines of a sheet.
-   A figure is the median of REPEATS repeats, with the least and the most, in us a sheet; the two programs take turns. */
+/* Times the sheet run beside the double program, from the sheet in memory to the listing in memory, on the first 1, 4, 16, .. lines of a sheet; with names
+   and sheets in turn as arguments, on each whole sheet. A figure is the median of REPEATS repeats, with the least and the most, in us a sheet; the two
+   programs take turns. */
 #include <stdint.h>
 #include <stdio.h>
 #include <stdlib.h>
@@ -31,28 +32,49 @@ static double timed(size_t (*run)(size_t), size_t n, int rounds) {
     return (now() - t0) / rounds / 1000;
 }
 
-int main(int argc, char **argv) {
-    FILE *f = argc == 2 ? fopen(argv[1], "r") : NULL;
-    if (!f) return 1;
+/* Reads a sheet, and gives its bytes; the two listings of it have to be equal. */
+static size_t taken(const char *name) {
+    FILE *f = fopen(name, "r");
+    if (!f) exit(1);
     size_t n = fread(sheet, 1, sizeof sheet, f), length = run_exact(n);
+    fclose(f);
     if (length != run_double(n) || memcmp(exact, doubles, length)) {
         fprintf(stderr, "sheets: the two listings differ\n");
-        return 1;
+        exit(1);
     }
-    printf("%6s %34s %30s %8s %16s\n", "lines", "exact, us a sheet", "double, us a sheet", "ratio", "exact, ns a line");
-    for (unsigned lines = 1; lines <= LINES; lines *= 4) {
-        size_t part = first(n, lines);
-        if (!part) return 1;
-        double t[2][REPEATS];
-        int rounds = 8 * LINES / (int)lines;
-        for (int r = 0; r < REPEATS; r++) {
-            t[0][r] = timed(run_exact, part, rounds);
-            t[1][r] = timed(run_double, part, 10 * rounds);
+    return n;
+}
+
+static void compare(const char *what, size_t part, unsigned lines) {
+    double t[2][REPEATS];
+    int rounds = 8 * LINES / (int)lines;
+    for (int r = 0; r < REPEATS; r++) {
+        t[0][r] = timed(run_exact, part, rounds);
+        t[1][r] = timed(run_double, part, 10 * rounds);
+    }
+    qsort(t[0], REPEATS, sizeof(double), order);
+    qsort(t[1], REPEATS, sizeof(double), order);
+    printf("%-9s %6u %12.1f (%.1f to %.1f) %12.2f (%.2f to %.2f) %8.1f %16.0f\n", what, lines, t[0][REPEATS / 2], t[0][0], t[0][REPEATS - 1],
+           t[1][REPEATS / 2], t[1][0], t[1][REPEATS - 1], t[0][REPEATS / 2] / t[1][REPEATS / 2], 1000 * t[0][REPEATS / 2] / lines);
+}
+
+int main(int argc, char **argv) {
+    if (argc < 2) return 1;
+    printf("%-9s %6s %34s %30s %8s %16s\n", "", "lines", "exact, us a sheet", "double, us a sheet", "ratio", "exact, ns a line");
+    if (argc == 2) {
+        size_t n = taken(argv[1]);
+        for (unsigned lines = 1; lines <= LINES; lines *= 4) {
+            size_t part = first(n, lines);
+            if (!part) return 1;
+            compare("", part, lines);
         }
-        qsort(t[0], REPEATS, sizeof(double), order);
-        qsort(t[1], REPEATS, sizeof(double), order);
-        printf("%6u %12.1f (%.1f to %.1f) %12.2f (%.2f to %.2f) %8.1f %16.0f\n", lines, t[0][REPEATS / 2], t[0][0], t[0][REPEATS - 1],
-               t[1][REPEATS / 2], t[1][0], t[1][REPEATS - 1], t[0][REPEATS / 2] / t[1][REPEATS / 2], 1000 * t[0][REPEATS / 2] / lines);
+    }
+    for (int i = 1; i + 1 < argc; i += 2) {
+        size_t n = taken(argv[i + 1]);
+        unsigned lines = 0;
+        for (size_t k = 0; k < n; k++) lines += sheet[k] == '\n';
+        if (!lines || lines > LINES) return 1;
+        compare(argv[i], n, lines);
     }
     return 0;
 }

@@ -6,8 +6,11 @@
 
    WHOLE NUMBERS: C cuts a double that is passed here without a word. Compile with -Wconversion, which warns of it, and round
    by hand: a stress of x N/mm² is (uint64_t)ceil(1000 * x), a wall of x mm (uint64_t)floor(100 * x), a shortfall of x mm
-   (uint64_t)ceil(100 * x). A negative whole number, such as a tension, arrives as one above 2^63 and is refused; a negative double
+   (uint64_t)ceil(100 * x), a gust pressure of x kN/m² (uint64_t)ceil(1000 * x). A negative whole number, such as a tension, arrives as one above 2^63 and is refused; a negative double
    has no defined value in C.
+
+   WIND: shell_write_wind takes the gust pressure w in N/m²: 1 kN/m² is 1,000 N/m². One passed in kN/m² is 1,000 times too small, no check can
+   notice it, and the shell holds. Round it up.
 
    BEFORE VERSION 0.2 shell_judge had ten numbers, and no shortfall. A client that was compiled for it has to be changed and compiled
    again: it passes no d, and what stands in that place would be read as one. With 0 for d its answers are those that it had. */
@@ -19,7 +22,7 @@
 
 /* The version, as two numbers and as text: "MAJOR.MINOR". It stands here alone: make reads it from these two lines. */
 #define SHELLSHEET_VERSION_MAJOR 0
-#define SHELLSHEET_VERSION_MINOR 3
+#define SHELLSHEET_VERSION_MINOR 4
 #define SHELLSHEET_VERSION SHELLSHEET_TEXT(SHELLSHEET_VERSION_MAJOR, SHELLSHEET_VERSION_MINOR)
 #define SHELLSHEET_TEXT(major, minor) SHELLSHEET_QUOTE(major) "." SHELLSHEET_QUOTE(minor)
 #define SHELLSHEET_QUOTE(number) #number
@@ -65,20 +68,37 @@ uint64_t shell_judge(uint64_t r, uint64_t t, uint64_t l, uint64_t e, uint64_t fy
 uint64_t shell_write(uint8_t *out, size_t room, uint64_t r, uint64_t t, uint64_t l, uint64_t e, uint64_t fy, uint64_t edges, uint64_t a,
                      uint64_t sx, uint64_t sphi, uint64_t tau, uint64_t d);
 
+/* Writes the line of one record under wind, as shell_write does, with the wind in place of the ring stress:
+
+       (shell r t l e fy edges a d (stress sx (wind w v) tau))
+
+       w              gust pressure at the stagnation point, N/m² (not kN/m²): up to 10,000
+       v              0 for a closed shell, 1 for an open or vented one
+
+   All other numbers are those of shell_write. The program shellsheet turns the wind into an even pressure, by element 424 of the standard: w times
+   delta = 0.46 (1 + 0.1 sqrt(Cphi (r/l) sqrt(r/t))), at most w, with Cphi 1.5, 1.25 or 1 for edges 11, 12 or 22, and 0.6 w more for a v of 1. The ring stress is that pressure times r/t, rounded up to
+   a whole number of kN/m², and the shell is judged with it.
+
+   The answer is the number of bytes put, 60 to 87, or a refusal, 6 to 13; room, the bytes that keep their values, memory and threads are as with
+   shell_write. It takes less than 16 KB of the calling thread's stack. */
+uint64_t shell_write_wind(uint8_t *out, size_t room, uint64_t r, uint64_t t, uint64_t l, uint64_t e, uint64_t fy, uint64_t edges, uint64_t a,
+                          uint64_t sx, uint64_t w, uint64_t v, uint64_t tau, uint64_t d);
+
 enum shell_bytes {
-    SHELL_ROOM = 128,    /* of a buffer for shell_write, at least */
+    SHELL_ROOM = 128,    /* of a buffer for shell_write or shell_write_wind, at least */
     SHELL_SHORTEST = 51  /* of a line with its newline, at least: a smaller answer is a refusal */
 };
 
 /* Why a record is refused: the first of these checks, in this order, that it breaks. */
 enum shell_refusals {
-    SHELL_REFUSED_ROOM = 12,         /* of shell_write only: the buffer has fewer than 128 bytes */
-    SHELL_REFUSED_RANGE = 6,         /* r, t, l, e, fy or a stress is outside its range */
-    SHELL_REFUSED_EDGES = 7,         /* edges are not 11, 12 or 22 */
-    SHELL_REFUSED_SHORTFALL = 11,    /* d is over 50 */
-    SHELL_REFUSED_WALL = 8,          /* r/t is not from 20 to 2,500 */
-    SHELL_REFUSED_LENGTH = 9,        /* l is below r/20 or over 50 r */
-    SHELL_REFUSED_IMPERFECTION = 10  /* a is over 2,000 */
+    SHELL_REFUSED_ROOM = 12,          /* of shell_write and shell_write_wind only: the buffer has fewer than 128 bytes */
+    SHELL_REFUSED_RANGE = 6,          /* r, t, l, e, fy or a stress is outside its range */
+    SHELL_REFUSED_EDGES = 7,          /* edges are not 11, 12 or 22 */
+    SHELL_REFUSED_SHORTFALL = 11,     /* d is over 50 */
+    SHELL_REFUSED_WALL = 8,           /* r/t is not from 20 to 2,500 */
+    SHELL_REFUSED_LENGTH = 9,         /* l is below r/20 or over 50 r */
+    SHELL_REFUSED_IMPERFECTION = 10,  /* a is over 2,000 */
+    SHELL_REFUSED_WIND = 13           /* of shell_write_wind only: w is over 10,000, or v is not 0 or 1 */
 };
 
 enum shell_verdicts {
@@ -92,7 +112,7 @@ static inline unsigned shell_refusal(uint64_t answer) {
     return answer < SHELL_SHORTEST ? (unsigned)answer : 0;
 }
 
-/* The number of bytes that shell_write has put, or 0 if the record was refused. */
+/* The number of bytes that shell_write or shell_write_wind has put, or 0 if the record was refused. */
 static inline size_t shell_written(uint64_t answer) {
     return answer >= SHELL_SHORTEST && answer <= SHELL_ROOM ? (size_t)answer : 0;
 }
@@ -113,7 +133,7 @@ static inline unsigned shell_high(uint64_t answer) {
 }
 
 /* An answer in words: "holds", "fails", "open", "written", or why the record was refused. Constant text in English, never null; for a
-   number that is no answer of either function, "not an answer". */
+   number that is no answer of these functions, "not an answer". */
 static inline const char *shell_reason(uint64_t answer) {
     switch (answer) {
     case SHELL_REFUSED_ROOM: return "the buffer has fewer than 128 bytes";
@@ -123,6 +143,7 @@ static inline const char *shell_reason(uint64_t answer) {
     case SHELL_REFUSED_WALL: return "r/t is not from 20 to 2,500";
     case SHELL_REFUSED_LENGTH: return "the length is below r/20 or over 50 r";
     case SHELL_REFUSED_IMPERFECTION: return "the imperfection is over 2,000";
+    case SHELL_REFUSED_WIND: return "the gust pressure is over 10,000, or v is not 0 or 1";
     default: break;
     }
     if (shell_written(answer)) return "written";

@@ -2,9 +2,10 @@
    of a case are parted by one space; what stands behind " = ", the expected answer, is not read, and neither is a line that starts with #.
 
        calls    the eleven numbers of shell_judge: the number that it returns
-       writer   room r t l E fy edges a d n, n times sx kind x y tau, then has p: "R refusal kept" or "B length bytes kept", the bytes in hex. The only
-                form that shell_write has: n is 1, kind is 0 with sphi for x and 0 for y, and has and p are 0. The lent buffer of room bytes holds
-                (7 i + 3) mod 256 at place i; kept is 1 if all that the call must not change is as it was, past the buffer's end too, else 0
+       writer   room r t l E fy edges a d n, n times sx kind x y tau, then has p: "R refusal kept" or "B length bytes kept", the bytes in hex. The
+                forms that there are calls for: n is 1, has and p are 0, and kind is 0 with sphi for x and 0 for y (shell_write), or 1 with w for x and
+                v for y (shell_write_wind). The lent buffer of room bytes holds (7 i + 3) mod 256 at place i; kept is 1 if all that the call must
+                not change is as it was, past the buffer's end too, else 0
 
    Another kind is a function, which takes the words of a case and prints its line, and a row in the table of kinds. */
 #define _POSIX_C_SOURCE 200809L
@@ -56,23 +57,21 @@ static void calls(void) {
 enum { MOST_ROOM = 1 << 24, PAST = 256 };  /* PAST: bytes behind the lent ones */
 
 static void writer(void) {
-    uint64_t room = number(), v[11];
-    if (room > MOST_ROOM) broken("the buffer is too large");
-    for (int i = 0; i < 7; i++) v[i] = number();
-    v[10] = number();
-    if (number() != 1) broken("shell_write takes one group of stresses");
-    v[7] = number();
-    if (number() != 0) broken("shell_write takes groups of kind 0 only");
-    v[8] = number();
-    if (number() != 0) broken("a group of kind 0 has 0 for y");
-    v[9] = number();
-    if (number() != 0 || number() != 0) broken("shell_write takes no inner pressure");
+    uint64_t given = number(), w[8];
+    if (given > MOST_ROOM) broken("the buffer is too large");
+    for (int i = 0; i < 8; i++) w[i] = number();
+    if (number() != 1) broken("a line has one group of stresses");
+    uint64_t sx = number(), kind = number(), x = number(), y = number(), tau = number();
+    if (kind > 1) broken("a group is of kind 0 or 1");
+    if (kind == 0 && y != 0) broken("a group of kind 0 has 0 for y");
+    if (number() != 0 || number() != 0) broken("a line has no inner pressure");
     ended();
-    size_t size = (size_t)room + PAST;
+    size_t room = (size_t)given, size = room + PAST;
     unsigned char *lent = malloc(size), *before = malloc(size);
     if (!lent || !before) broken("there is no memory for the buffer");
     for (size_t i = 0; i < size; i++) lent[i] = before[i] = (unsigned char)(7 * i + 3);
-    uint64_t answer = shell_write(lent, (size_t)room, v[0], v[1], v[2], v[3], v[4], v[5], v[6], v[7], v[8], v[9], v[10]);
+    uint64_t answer = kind ? shell_write_wind(lent, room, w[0], w[1], w[2], w[3], w[4], w[5], w[6], sx, x, y, tau, w[7])
+                           : shell_write(lent, room, w[0], w[1], w[2], w[3], w[4], w[5], w[6], sx, x, tau, w[7]);
     size_t put = shell_written(answer);
     int kept = !memcmp(lent + put, before + put, size - put);
     if (put) {

@@ -1,6 +1,6 @@
 /* Judges and writes the records on standard input, lines of eleven numbers, by one thread and then by 8 at once, each on a stack of its own that was
-   painted before and into a buffer of its own. The answers have to be equal, and so has what is in the buffers. Prints how far below their caller's frame
-   the calls wrote: the stack they take. */
+   painted before and into buffers of its own; each record is written a second time with wind, made of its ring stress. The answers have to be equal, and so
+   has what is in the buffers. Prints how far below their caller's frame the calls wrote: the stack they take. */
 #define _GNU_SOURCE
 #include <inttypes.h>
 #include <pthread.h>
@@ -13,8 +13,8 @@
 enum { THREADS = 8, ROUNDS = 100, MOST = 4096, STACK = 1 << 18, PAINT = 0xA5 };
 
 struct answers {
-    uint64_t judged, written;
-    uint8_t line[SHELL_ROOM];
+    uint64_t judged, written, windy;
+    uint8_t line[SHELL_ROOM], wind[SHELL_ROOM];
 };
 
 static uint64_t records[MOST][11];
@@ -32,12 +32,15 @@ struct work {
 
 static void ask(const uint64_t *v, struct answers *to) {
     memset(to->line, PAINT, sizeof to->line);
+    memset(to->wind, PAINT, sizeof to->wind);
     to->judged = shell_judge(v[0], v[1], v[2], v[3], v[4], v[5], v[6], v[7], v[8], v[9], v[10]);
     to->written = shell_write(to->line, sizeof to->line, v[0], v[1], v[2], v[3], v[4], v[5], v[6], v[7], v[8], v[9], v[10]);
+    to->windy = shell_write_wind(to->wind, sizeof to->wind, v[0], v[1], v[2], v[3], v[4], v[5], v[6], v[7], v[8] % 10002, v[8] % 3, v[9], v[10]);
 }
 
 static int same(const struct answers *x, const struct answers *y) {
-    return x->judged == y->judged && x->written == y->written && !memcmp(x->line, y->line, sizeof x->line);
+    return x->judged == y->judged && x->written == y->written && x->windy == y->windy && !memcmp(x->line, y->line, sizeof x->line) &&
+           !memcmp(x->wind, y->wind, sizeof x->wind);
 }
 
 static void *run(void *given) {

@@ -1,15 +1,17 @@
-// The calls from C (SCOPE 13, 20.7 and 21.5).
+// The calls from C (SCOPE 13, 20.7, 21.5, 22.9 and 22.10).
 ghost use mathlib.Core.Path.{_≡_};
 ghost use mathlib.Core.List.{List};
 ghost use Prim.Native.Nat.{ℕ};
 ghost use Rattle.answer.specs.Answers.{answerNumber};
 ghost use Rattle.answer.specs.Right.{NumberOfRight};
+ghost use Rattle.record.specs.declared.Ring.the-variants.{Stress, Wind};
 ghost use Rattle.record.specs.Limits.{recordOf};
 ghost use Rattle.record.specs.Right.{Right};
 ghost use Rattle.record.specs.Answering.{recordAnswer};
-ghost use Rattle.writer.specs.Writing.{writtenNumber, NumberOfWriting};
+ghost use Rattle.writer.specs.Writing.{numbered, NumberOfWriting};
 ghost use Rattle.writer.specs.Writer.{writing};
 use record::Record;
+use record::Ring;
 use writer::write;
 
 // The numbers of a line, but the shortfall last, and the number of the answer. Nothing is changed.
@@ -27,10 +29,10 @@ pub extern "C" fn shell_judge(
     tau: u64,
     d: u64,
 ) -> u64
-    ensures { λ n. ⌜ n ≡ answerNumber (recordAnswer (recordOf r t l e fy edges a sx sphi tau d)) ⌝ }
-    ensures { λ n. ⌜ NumberOfRight (Right (recordOf r t l e fy edges a sx sphi tau d)) n ⌝ }
+    ensures { λ n. ⌜ n ≡ answerNumber (recordAnswer (recordOf r t l e fy edges a sx (Stress sphi) tau d)) ⌝ }
+    ensures { λ n. ⌜ NumberOfRight (Right (recordOf r t l e fy edges a sx (Stress sphi) tau d)) n ⌝ }
 {
-    let given = Record::judge(r, t, l, e, fy, edges, a, sx, sphi, tau, d);
+    let given = Record::judge(r, t, l, e, fy, edges, a, sx, Ring::Stress(sphi), tau, d);
     given.number()
 }
 
@@ -50,9 +52,35 @@ pub extern "C" fn shell_write(
     tau: u64,
     d: u64,
 ) -> u64
-    ensures { λ n. ⌜ NumberOfWriting (recordOf r t l e fy edges a sx sphi tau d) (now (out .entry)) (now (out .exit)) n ⌝ }
-    ensures { λ n. ⌜ _≡_ {A = ℕ × List ℕ} (n, now (out .exit)) (writtenNumber (writing (recordOf r t l e fy edges a sx sphi tau d) (now (out .entry)) .0), writing (recordOf r t l e fy edges a sx sphi tau d) (now (out .entry)) .1) ⌝ }
+    ensures { λ n. ⌜ NumberOfWriting (recordOf r t l e fy edges a sx (Stress sphi) tau d) (now (out .entry)) (now (out .exit)) n ⌝ }
+    ensures { λ n. ⌜ _≡_ {A = ℕ × List ℕ} (n, now (out .exit)) (numbered (writing (recordOf r t l e fy edges a sx (Stress sphi) tau d) (now (out .entry)))) ⌝ }
 {
-    let w = write(out, r, t, l, e, fy, edges, a, sx, sphi, tau, d);
-    w.number()
+    let c = Record::of(r, t, l, e, fy, edges, a, sx, Ring::Stress(sphi), tau, d);
+    let put = write(out, c);
+    put.number()
+}
+
+// The same with w and v of wind in the place of the ring stress.
+#[no_mangle]
+pub extern "C" fn shell_write_wind(
+    out: &mut [u8],
+    r: u64,
+    t: u64,
+    l: u64,
+    e: u64,
+    fy: u64,
+    edges: u64,
+    a: u64,
+    sx: u64,
+    w: u64,
+    v: u64,
+    tau: u64,
+    d: u64,
+) -> u64
+    ensures { λ n. ⌜ NumberOfWriting (recordOf r t l e fy edges a sx (Wind w v) tau d) (now (out .entry)) (now (out .exit)) n ⌝ }
+    ensures { λ n. ⌜ _≡_ {A = ℕ × List ℕ} (n, now (out .exit)) (numbered (writing (recordOf r t l e fy edges a sx (Wind w v) tau d) (now (out .entry)))) ⌝ }
+{
+    let c = Record::of(r, t, l, e, fy, edges, a, sx, Ring::Wind(w, v), tau, d);
+    let put = write(out, c);
+    put.number()
 }

@@ -128,10 +128,10 @@ module _ (s : Cylinder) (ok : Sound s) where
   t/r-like : Like (t/r s) (s .wall) (200 * s .radius)
   t/r-like = again (self _ _) 1 1 _ _ (lit< tt) (lit< tt) (omega arith) (omega arith)
 
-  r/t-like : Like (r/t s) (200 * s .radius) (s .wall)
+  pub r/t-like : Like (r/t s) (200 * s .radius) (s .wall)
   r/t-like = again (self _ _) 1 1 _ _ (lit< tt) (lit< tt) (omega arith) (omega arith)
 
-  r/l-like : Like (r/l s) (s .radius) (s .length)
+  pub r/l-like : Like (r/l s) (s .radius) (s .length)
   r/l-like = again (self _ _) 1 1 _ _ (lit< tt) (lit< tt) (omega arith) (omega arith)
 
   l/r-like : Like (l/r s) (s .length) (s .radius)
@@ -145,7 +145,7 @@ module _ (s : Cylinder) (ok : Sound s) where
       go false true = self 3 1
       go false false = self 1 1
 
-  Cφ-like : Like (Cφ s) (WholeIdeal.ringEdges (s .edges)) 4
+  pub Cφ-like : Like (Cφ s) (WholeIdeal.ringEdges (s .edges)) 4
   Cφ-like = go (eqb (s .edges) 11) (eqb (s .edges) 12)
     where
       go : (a b : Bool) → Like (pick a (tenths 1_5) (pick b (hundredths 1_25) (whole 1))) (pick a 6 (pick b 5 4)) 4

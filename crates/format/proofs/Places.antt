@@ -95,12 +95,24 @@ pub fails-first : {A B : Type 0} {f : Reader A} {s : List ℕ} {at : ℕ} (g : R
 unfolding sequence
 fails-first g of = record { none = λ from. rw (of .none from) refl }
 
+-- ---- one of two kinds of a value
+
+module _ {A B C : Type 0} {f : Reader A} {s : List ℕ} {at : ℕ} (h : A → C) (k : B → C) where
+  pub finds-one : {a : A} {next : ℕ} (g : Reader B) → Finds f s at a next → Finds (oneOf h k f g) s at (h a) next
+  unfolding oneOf
+  finds-one g of = record { from = of .from; to = of .to; same = rw (of .same) refl }
+
+  -- the first is not there: the answer is that to the second
+  pub answers-other : {p : Part C} (g : Reader B) → Fails f s at → Answers (changed k g) s at p → Answers (oneOf h k f g) s at p
+  unfolding oneOf changed
+  answers-other g without (reads {a = c} {next = next} of) = reads {a = c} {next = next} (record { from = of .from; to = of .to; same = rw (without .none (of .from)) (of .same) })
+  answers-other g without (refuses of) = refuses (record { none = λ from. rw (without .none from) (of .none from) })
+
 -- ---- a value or no bytes
 
 module _ {A C : Type 0} {f : Reader A} {s : List ℕ} {at : ℕ} (h : A → C) (none : C) where
   pub finds-given : {a : A} {next : ℕ} → Finds f s at a next → Finds (optional h none f) s at (h a) next
-  unfolding oneOf
-  finds-given of = record { from = of .from; to = of .to; same = rw (of .same) refl }
+  finds-given of = finds-one h (λ u. none) empty of
 
   pub finds-missing : at ≤ length s → Fails f s at → Finds (optional h none f) s at none at
   unfolding oneOf empty

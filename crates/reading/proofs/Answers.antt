@@ -94,9 +94,9 @@ line-means l _ (too-long h) j e = absurd (let z : _≡_ {A = ℕ} 0 1 = cc in om
 line-means l _ (not-form h none) j e = absurd (let z : _≡_ {A = ℕ} 0 1 = cc in omega arith)
 line-means l _ (of-record c a h is right) j e = (c, (is, verdict-means c j (subst (Right c) e right)))
 
--- ---- the number of a refusal is at most 11
+-- ---- the number of a refusal is at most 13
 
-pub line-refusal : (l : List ℕ) (a : Answer) → RightLine l a → (n : ℕ) → a ≡ Refused n → n ≤ 11
+pub line-refusal : (l : List ℕ) (a : Answer) → RightLine l a → (n : ℕ) → a ≡ Refused n → n ≤ 13
 line-refusal l _ (too-long h) n e = let z : _≡_ {A = ℕ} 4 n = cc in omega arith
 line-refusal l _ (not-form h none) n e = let z : _≡_ {A = ℕ} 5 n = cc in omega arith
 line-refusal l _ (of-record c a h is right) n e = refusal-range c n (subst (Right c) e right) .1

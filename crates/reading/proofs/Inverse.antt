@@ -12,14 +12,16 @@ use Rattle.word.specs.Numbers.{numberOf, plainStart}
 use Rattle.word.specs.declared.Numeral.{Numeral}
 use Rattle.word.specs.declared.Numeral.the-variants.{Value, Missing}
 use Rattle.format.specs.Readers.{nothing, startsWith, fixed, number, sequence, changed, whole}
-use Rattle.format.proofs.Formats.{Format, Kinds, Always, EndsWord, format-number, format-sequence, format-changed, format-as, format-before, format-closed, format-optional, Whole, spelt, unspelt, none-whole, whole-none, whole-spells, whole-means, read-whole, format-whole}
+use Rattle.format.proofs.Formats.{Format, Kinds, Always, EndsWord, format-number, format-sequence, format-changed, format-as, format-before, format-closed, format-one-of, format-optional, Whole, spelt, unspelt, none-whole, whole-none, whole-spells, whole-means, read-whole, format-whole}
+use Rattle.record.specs.declared.Ring.{Ring}
+use Rattle.record.specs.declared.Ring.the-variants.{Stress, Wind}
 use Rattle.record.specs.declared.Group.{Group}
 use Rattle.record.specs.declared.Record.{Record}
 use Rattle.record.specs.Limits.{withShortfall}
 use Rattle.reading.specs.declared.Form.{Form}
 use Rattle.reading.specs.declared.Form.the-variants.{Read, Refused}
-use Rattle.reading.specs.Text.{sevenText, groupText, shellText, text, textWithoutShortfall, SmallNumber, SmallGroup, Small, Spells}
-use Rattle.reading.specs.Reading.{Shown, wallIn, groupIn, recordIn, spaced, shortfall, shown, group, line, formOf}
+use Rattle.reading.specs.Text.{sevenText, ringText, groupText, shellText, text, textWithoutShortfall, SmallNumber, SmallRing, SmallGroup, Small, Spells}
+use Rattle.reading.specs.Reading.{Shown, wallIn, windIn, groupIn, recordIn, spaced, shortfall, shown, wind, ring, group, line, formOf}
 
 -- ---- the parts
 
@@ -77,6 +79,23 @@ format-shown =
     last (Value d) rest small follows = refl
     last Missing rest small follows = follows .0
 
+-- σφ or wind, after a space
+format-wind : Format (λ p. SmallNumber (p .0) × SmallNumber (p .1)) Always (λ p. ascii " " ++ ringText (windIn p)) wind
+unfolding wind
+format-wind =
+    format-as (λ p h. h) (λ p h. h) (λ rest follows. follows) (λ p. simp append-assoc)
+    (format-sequence (format-before (ascii " (wind ") format-number) (format-closed (ascii ")") (λ rest. refl) format-spaced) (λ b rest small follows. refl))
+
+format-ring : Format SmallRing EndsWord (λ r. ascii " " ++ ringText r) ring
+unfolding ring changed sequence fixed startsWith number upTo numberOf plainStart
+format-ring =
+    format-as (λ r h. h) (λ r h. h) (λ rest follows. (follows, tt)) (λ r. refl)
+    (format-one-of Stress windIn kinds format-spaced format-wind (λ b rest small follows. refl))
+  where
+    kinds : Kinds Stress windIn
+    kinds (Stress σφ) = inl (σφ, refl)
+    kinds (Wind w v) = inr ((w, v), refl)
+
 -- a space stands before the group
 pub format-group : Format SmallGroup Always (λ g. ascii " " ++ groupText g) group
 unfolding group
@@ -84,7 +103,7 @@ format-group =
     format-as (λ g h. (h .0, (h .1, h .2))) (λ g h. (h .0, h .1 .0, h .1 .1)) (λ rest follows. follows) (λ g. simp append-assoc)
     (format-changed groupIn (λ g. (g .axial, (g .ring, g .shear))) (λ g. refl) (λ p. refl)
     (format-sequence (format-before (ascii " (stress ") format-number)
-    (format-sequence format-spaced (format-closed (ascii ")") (λ rest. refl) format-spaced) (λ b rest small follows. refl))
+    (format-sequence format-ring (format-closed (ascii ")") (λ rest. refl) format-spaced) (λ b rest small follows. refl))
     (λ b rest small follows. refl)))
 
 -- ---- the line

@@ -7,9 +7,11 @@ use mathlib.Core.List.{List}
 use lib.ListN.{length, length-append}
 use Rattle.text.specs.Bytes.{ascii, decimal}
 use Rattle.text.proofs.Laws.{decimal-length}
+use Rattle.record.specs.declared.Ring.{Ring}
+use Rattle.record.specs.declared.Ring.the-variants.{Stress, Wind}
 use Rattle.record.specs.declared.Record.{Record}
 use Rattle.record.specs.Answering.{recordAnswer}
-use Rattle.reading.specs.Text.{SmallNumber, text, textWithoutShortfall, Small, Spells}
+use Rattle.reading.specs.Text.{SmallNumber, SmallRing, ringText, text, textWithoutShortfall, Small, Spells}
 use Rattle.answer.specs.declared.Answer.{Answer}
 use Rattle.reading.specs.Reading.{formOf}
 use Rattle.record.specs.Right.{Right}
@@ -34,16 +36,20 @@ same-record-right l m c h h′ is is′ a (of-record d _ k that right) = of-reco
 digits : (n : ℕ) → SmallNumber n → length (decimal n) ≤ 7
 digits n h = decimal-length 6 n h
 
-module _ (c : Record) where
-  pub text-short : Small c → length (text c) ≤ 104
-  unfolding text Small
-  text-short ((r, t, l, E, fy, edges, a, d), (σx, σφ, τ)) =
-      simp length-append (omega (arith, digits _ r, digits _ t, digits _ l, digits _ E, digits _ fy, digits _ edges, digits _ a, digits _ d, digits _ σx, digits _ σφ, digits _ τ))
+ring-short : (r : Ring) → SmallRing r → length (ringText r) ≤ 22
+ring-short (Stress σφ) h = omega (arith, digits σφ h)
+ring-short (Wind w v) (h, h′) = simp length-append (omega (arith, digits w h, digits v h′))
 
-  pub text-without-short : Small c → length (textWithoutShortfall c) ≤ 96
+module _ (c : Record) where
+  pub text-short : Small c → length (text c) ≤ 119
+  unfolding text Small
+  text-short ((r, t, l, E, fy, edges, a, d), (σx, ring, τ)) =
+      simp length-append (omega (arith, digits _ r, digits _ t, digits _ l, digits _ E, digits _ fy, digits _ edges, digits _ a, digits _ d, digits _ σx, ring-short (c .group .ring) ring, digits _ τ))
+
+  pub text-without-short : Small c → length (textWithoutShortfall c) ≤ 111
   unfolding textWithoutShortfall Small
-  text-without-short ((r, t, l, E, fy, edges, a, d), (σx, σφ, τ)) =
-      simp length-append (omega (arith, digits _ r, digits _ t, digits _ l, digits _ E, digits _ fy, digits _ edges, digits _ a, digits _ σx, digits _ σφ, digits _ τ))
+  text-without-short ((r, t, l, E, fy, edges, a, d), (σx, ring, τ)) =
+      simp length-append (omega (arith, digits _ r, digits _ t, digits _ l, digits _ E, digits _ fy, digits _ edges, digits _ a, digits _ σx, ring-short (c .group .ring) ring, digits _ τ))
 
   -- SCOPE 20.9: a line with seven numbers, and the same line with 0 as the eighth, have the same answer
   module _ (small : Small c) (zero : c .wall .shortfall ≡ 0) where

@@ -2,15 +2,22 @@
 use Prim.Native.Nat.{ℕ}
 use Rattle.format.specs.Places.{Part, part, refused}
 use Rattle.record.specs.declared.Wall.{Wall}
+use Rattle.record.specs.declared.Ring.{Ring}
 use Rattle.record.specs.declared.Group.{Group}
 use Rattle.reading.specs.declared.WallAt.{WallAt}
 use Rattle.reading.specs.declared.WallAt.the-variants as WallAt
+use Rattle.reading.specs.declared.RingAt.{RingAt}
+use Rattle.reading.specs.declared.RingAt.the-variants as RingAt
 use Rattle.reading.specs.declared.GroupAt.{GroupAt}
 use Rattle.reading.specs.declared.GroupAt.the-variants as GroupAt
 
 abbrev pub wallPart : WallAt → Part Wall
 wallPart (WallAt.Read w next) = part w next
 wallPart (WallAt.Refused n) = refused n
+
+abbrev pub ringPart : RingAt → Part Ring
+ringPart (RingAt.Read r next) = part r next
+ringPart (RingAt.Refused n) = refused n
 
 abbrev pub groupPart : GroupAt → Part Group
 groupPart (GroupAt.Read g next) = part g next

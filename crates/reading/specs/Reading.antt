@@ -4,8 +4,10 @@ use mathlib.Core.List.{List}
 use Rattle.text.specs.Bytes.{ascii}
 use Rattle.word.specs.declared.Numeral.{Numeral}
 use Rattle.word.specs.declared.Numeral.the-variants.{Value, Missing}
-use Rattle.format.specs.Readers.{Reader, number, sequence, changed, before, closed, optional, whole}
+use Rattle.format.specs.Readers.{Reader, number, sequence, changed, oneOf, before, closed, optional, whole}
 use Rattle.record.specs.declared.Wall.{Wall}
+use Rattle.record.specs.declared.Ring.{Ring}
+use Rattle.record.specs.declared.Ring.the-variants.{Stress, Wind}
 use Rattle.record.specs.declared.Group.{Group}
 use Rattle.record.specs.declared.Record.{Record}
 use Rattle.reading.specs.declared.Form.{Form}
@@ -35,7 +37,10 @@ wallIn p =
       shortfall = orZero (p .1 .1 .1 .1 .1 .1 .1);
     }
 
-abbrev pub groupIn : ℕ × (ℕ × ℕ) → Group
+abbrev pub windIn : ℕ × ℕ → Ring
+windIn p = Wind (p .0) (p .1)
+
+abbrev pub groupIn : ℕ × (Ring × ℕ) → Group
 groupIn p = record { axial = p .0; ring = p .1 .0; shear = p .1 .1 }
 
 abbrev pub recordIn : Shown × Group → Record
@@ -54,9 +59,17 @@ shortfall = optional Value Missing spaced
 unfoldable pub shown : Reader Shown
 shown = sequence number (sequence spaced (sequence spaced (sequence spaced (sequence spaced (sequence spaced (sequence spaced shortfall))))))
 
+-- w and v of (wind w v), after a space
+unfoldable pub wind : Reader (ℕ × ℕ)
+wind = sequence (before (ascii " (wind ") number) (closed spaced (ascii ")"))
+
+-- σφ or wind, after a space
+unfoldable pub ring : Reader Ring
+ring = oneOf Stress windIn spaced wind
+
 -- a group after a space
 unfoldable pub group : Reader Group
-group = changed groupIn (sequence (before (ascii " (stress ") number) (sequence spaced (closed spaced (ascii ")"))))
+group = changed groupIn (sequence (before (ascii " (stress ") number) (sequence ring (closed spaced (ascii ")"))))
 
 unfoldable pub line : Reader (Shown × Group)
 line = sequence (before (ascii "(shell ") shown) (closed group (ascii ")"))

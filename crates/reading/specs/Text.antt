@@ -1,10 +1,12 @@
--- SCOPE 7.4 to 7.6, 20.1 and 20.2: the lines that spell a record.
+-- SCOPE 7.4 to 7.6, 20.1, 20.2 and 22.1: the lines that spell a record.
 use Prim.Native.Nat.{ℕ, _<_}
 use mathlib.Core.Path.{_≡_}
 use mathlib.Core.Logic.{_⊎_}
 use mathlib.Core.List.{List, _++_}
 use Rattle.text.specs.Bytes.{ascii, decimal}
 use Rattle.record.specs.declared.Wall.{Wall}
+use Rattle.record.specs.declared.Ring.{Ring}
+use Rattle.record.specs.declared.Ring.the-variants.{Stress, Wind}
 use Rattle.record.specs.declared.Group.{Group}
 use Rattle.record.specs.declared.Record.{Record}
 
@@ -23,19 +25,24 @@ sevenText w =
 abbrev pub wallText : Wall → List ℕ
 wallText w = sevenText w ++ ascii " " ++ decimal (w .shortfall)
 
--- (stress σx σφ τ)
-abbrev pub groupText : Group → List ℕ
-groupText g = ascii "(stress " ++ decimal (g .axial) ++ ascii " " ++ decimal (g .ring) ++ ascii " " ++ decimal (g .shear) ++ ascii ")"
+-- σφ, or (wind w v)
+abbrev pub ringText : Ring → List ℕ
+ringText (Stress σφ) = decimal σφ
+ringText (Wind w v) = ascii "(wind " ++ decimal w ++ ascii " " ++ decimal v ++ ascii ")"
 
--- (shell NUMBERS (stress σx σφ τ))
+-- (stress σx RING τ)
+abbrev pub groupText : Group → List ℕ
+groupText g = ascii "(stress " ++ decimal (g .axial) ++ ascii " " ++ ringText (g .ring) ++ ascii " " ++ decimal (g .shear) ++ ascii ")"
+
+-- (shell NUMBERS GROUP)
 abbrev pub shellText : List ℕ → Group → List ℕ
 shellText numbers g = ascii "(shell " ++ numbers ++ ascii " " ++ groupText g ++ ascii ")"
 
--- (shell r t l E fy edges a d (stress σx σφ τ))
+-- (shell r t l E fy edges a d GROUP)
 unfoldable pub text : Record → List ℕ
 text c = shellText (wallText (c .wall)) (c .group)
 
--- (shell r t l E fy edges a (stress σx σφ τ))
+-- (shell r t l E fy edges a GROUP)
 unfoldable pub textWithoutShortfall : Record → List ℕ
 textWithoutShortfall c = shellText (sevenText (c .wall)) (c .group)
 
@@ -55,8 +62,12 @@ SmallWall w =
     × SmallNumber (w .imperfection)
     × SmallNumber (w .shortfall)
 
+abbrev pub SmallRing : Ring → Type 0
+SmallRing (Stress σφ) = SmallNumber σφ
+SmallRing (Wind w v) = SmallNumber w × SmallNumber v
+
 abbrev pub SmallGroup : Group → Type 0
-SmallGroup g = SmallNumber (g .axial) × SmallNumber (g .ring) × SmallNumber (g .shear)
+SmallGroup g = SmallNumber (g .axial) × SmallRing (g .ring) × SmallNumber (g .shear)
 
 unfoldable pub Small : Record → Type 0
 Small c = SmallWall (c .wall) × SmallGroup (c .group)

@@ -6,12 +6,13 @@ use format::number_after;
 use format::number_at;
 use record::Group;
 use record::Record;
+use record::Ring;
 use record::Wall;
 ghost use mathlib.Core.Path.{_≡_};
 ghost use Rattle.format.specs.Readers.{changed};
 ghost use Rattle.format.specs.Places.{Answers, numberPart};
-ghost use Rattle.reading.specs.Reading.{orZero, wallIn, spaced, shortfall, shown, group, formOf};
-ghost use Rattle.reading.specs.Parts.{wallPart, groupPart};
+ghost use Rattle.reading.specs.Reading.{orZero, wallIn, windIn, spaced, shortfall, shown, wind, ring, group, formOf};
+ghost use Rattle.reading.specs.Parts.{wallPart, ringPart, groupPart};
 
 // What a line is: one that spells a record, or the line's refusal.
 pub enum Form {
@@ -22,6 +23,11 @@ pub enum Form {
 // A part of a line and the place after it, or the line's refusal.
 enum WallAt {
     Read(Wall, usize),
+    Refused(u64),
+}
+
+enum RingAt {
+    Read(Ring, usize),
     Refused(u64),
 }
 
@@ -91,14 +97,40 @@ fn wall_at(line: &[u8], at: usize) -> WallAt
     WallAt::Read(wall, at)
 }
 
-// (stress σx σφ τ), after a space
+// (wind w v), after a space
+fn wind_at(line: &[u8], at: usize) -> RingAt
+    ensures { λ r. ⌜ Answers (changed windIn wind) (now (line .entry)) at (ringPart r) ⌝ }
+{
+    let NumberAt::Read(gust, at) = number_after(line, at, b" (wind ") else {
+        return RingAt::Refused(5);
+    };
+    let NumberAt::Read(vented, at) = spaced_at(line, at) else {
+        return RingAt::Refused(5);
+    };
+    let FixedAt::Read(at) = fixed_at(line, at, b")") else {
+        return RingAt::Refused(5);
+    };
+    RingAt::Read(Ring::Wind(gust, vented), at)
+}
+
+// σφ or wind, after a space
+fn ring_at(line: &[u8], at: usize) -> RingAt
+    ensures { λ r. ⌜ Answers ring (now (line .entry)) at (ringPart r) ⌝ }
+{
+    let NumberAt::Read(stress, next) = spaced_at(line, at) else {
+        return wind_at(line, at);
+    };
+    RingAt::Read(Ring::Stress(stress), next)
+}
+
+// (stress σx σφ τ), or wind in the place of σφ, after a space
 fn group_at(line: &[u8], at: usize) -> GroupAt
     ensures { λ r. ⌜ Answers group (now (line .entry)) at (groupPart r) ⌝ }
 {
     let NumberAt::Read(axial, at) = number_after(line, at, b" (stress ") else {
         return GroupAt::Refused(5);
     };
-    let NumberAt::Read(ring, at) = spaced_at(line, at) else {
+    let RingAt::Read(ring, at) = ring_at(line, at) else {
         return GroupAt::Refused(5);
     };
     let NumberAt::Read(shear, at) = spaced_at(line, at) else {

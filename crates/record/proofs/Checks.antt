@@ -12,7 +12,7 @@ use Rattle.answer.proofs.Checks.{Every, numbers}
 use Rattle.record.specs.declared.Wall.{Wall}
 use Rattle.record.specs.declared.Group.{Group}
 use Rattle.record.specs.declared.Record.{Record}
-use Rattle.record.specs.Limits.{fromTo, dimensions, material, stresses, inRange, shortfallCounts, effectiveWall, checks, cylinderOf}
+use Rattle.record.specs.Limits.{fromTo, dimensions, material, ringInRange, stresses, inRange, shortfallCounts, effectiveWall, checks, cylinderOf}
 
 -- a number in its range
 pub record Between (low high x : ℕ) : Type 0 where
@@ -30,7 +30,7 @@ pub record Ranges (w : Wall) (g : Group) : Type 0 where
   pub modulus : Between 60000 220000 (w .modulus)
   pub yield : Between 100 700 (w .«yield_stress»)
   pub axial : g .axial ≤ 700000
-  pub ring : g .ring ≤ 700000
+  pub ring : ringInRange (g .ring) ≡ true
   pub shear : g .shear ≤ 700000
 
 pub ranges : (c : Record) → inRange c ≡ true → Ranges (c .wall) (c .group)
@@ -42,8 +42,8 @@ ranges c h =
     let (r, wl) = and-true (fromTo 100 50000 (W .radius)) (fromTo 100 10000 (W .thickness) && fromTo 10 200000 (W .length)) d in
     let (w, l) = and-true (fromTo 100 10000 (W .thickness)) (fromTo 10 200000 (W .length)) wl in
     let (e, f) = and-true (fromTo 60000 220000 (W .modulus)) (fromTo 100 700 (W .«yield_stress»)) m in
-    let (x, yz) = and-true (leb (G .axial) 700000) (leb (G .ring) 700000 && leb (G .shear) 700000) s in
-    let (y, z) = and-true (leb (G .ring) 700000) (leb (G .shear) 700000) yz in
+    let (x, yz) = and-true (leb (G .axial) 700000) (ringInRange (G .ring) && leb (G .shear) 700000) s in
+    let (y, z) = and-true (ringInRange (G .ring)) (leb (G .shear) 700000) yz in
     record {
       radius = between 100 50000 (W .radius) r;
       thickness = between 100 10000 (W .thickness) w;
@@ -51,7 +51,7 @@ ranges c h =
       modulus = between 60000 220000 (W .modulus) e;
       yield = between 100 700 (W .«yield_stress») f;
       axial = leb-true (G .axial) 700000 x;
-      ring = leb-true (G .ring) 700000 y;
+      ring = y;
       shear = leb-true (G .shear) 700000 z;
     }
 
@@ -88,4 +88,4 @@ cylinder-within c (r, (e, (d, (w, (l, (t, u)))))) =
 
 -- no check of a record has the number 0
 pub above-none : (c : Record) → Every (λ m. 0 < m) (numbers (checks c))
-above-none c = (lit< tt, (lit< tt, (lit< tt, (lit< tt, (lit< tt, (lit< tt, tt))))))
+above-none c = (lit< tt, (lit< tt, (lit< tt, (lit< tt, (lit< tt, (lit< tt, (lit< tt, tt)))))))

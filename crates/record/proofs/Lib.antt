@@ -3,3 +3,4 @@ pub mod Loads
 pub mod Right
 pub mod Trial
 pub mod Shortfall
+pub mod Wind

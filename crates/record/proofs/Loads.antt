@@ -1,14 +1,28 @@
--- Laws for the code: the stresses of a group as loads, and the bounds of the sum. Assumes nothing.
-use mathlib.Core.Path.{_≡_, ap, _∙_}
-use Prim.Native.Nat.{ℕ, _≤_, _<_}
+-- Laws for the code: what a record that breaks no check allows to be called, the stresses of a group as loads, and the bounds of the sum. Assumes nothing.
+use mathlib.Core.Path.{_≡_, sym, ap, _∙_, subst}
+use mathlib.Core.Bool.{true}
+use Prim.Native.Nat.{ℕ, _*_, _≤_, _<_}
 use native.Mathlib.Omega.{arith}
+use borrow.Author.Tests.{leb-true}
 use Rattle.cylinder.specs.declared.Cylinder.{Cylinder}
 use Rattle.cylinder.specs.Fraction.{Fraction, whole, _//_}
 use Rattle.cylinder.specs.Search.{Pair, sumBounds}
+use Rattle.cylinder.specs.InLimits.{InLimits}
 use Rattle.bounds.specs.declared.Load.{Load}
 use Rattle.bounds.specs.Stresses.{Small, fractionOf}
 use Rattle.answer.specs.declared.Judgement.{Judgement}
 use Rattle.answer.specs.Answering.{judgementOf}
+use Rattle.answer.specs.Checks.{AllPassed}
+use Rattle.record.specs.declared.Record.{Record}
+use Rattle.record.specs.Limits.{ringInRange, windAllowed, checks, cylinderOf}
+use Rattle.record.proofs.Checks.{ranges, cylinder-within}
+
+module _ (c : Record) (all : AllPassed (checks c)) where
+  pub wall-fits : (c .wall .thickness ≤ 10000) × (c .wall .shortfall ≤ 2 * c .wall .thickness)
+  wall-fits = let t = ranges c (all .0) .thickness in (t .most, omega (arith, t .least, leb-true (c .wall .shortfall) 50 (all .1 .1 .0)))
+
+  pub ring-fits : (s : Cylinder) → s ≡ cylinderOf (c .wall) → InLimits s × (ringInRange (c .group .ring) ≡ true) × (windAllowed (c .group .ring) ≡ true)
+  ring-fits s e = (subst InLimits (sym e) (cylinder-within c all), ranges c (all .0) .ring, all .1 .1 .1 .1 .1 .1 .0)
 
 pub load-small : {x : ℕ} (l : Load) → (l .num ≡ x) × (l .den ≡ 1) → x ≤ 700000 → Small l
 load-small l (n, d) h = (omega arith, omega arith)

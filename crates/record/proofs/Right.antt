@@ -26,14 +26,15 @@ use Rattle.answer.proofs.Right
 use Rattle.answer.proofs.Verdicts.{verdict-holds, verdict-fails, verdict-open, holds-verdict, fails-verdict}
 use Rattle.record.specs.declared.Record.{Record}
 use Rattle.record.specs.Limits.{checks, cylinderOf}
-use Rattle.record.specs.Right.{RecordOver, Bounds, Right, Means}
+use Rattle.record.specs.Right.{ringStress, RecordOver, Bounds, Right, Means}
 use Rattle.record.specs.Answering.{boundsOf, judgementOfRecord, recordAnswer}
 use Rattle.record.proofs.Checks.{cylinder-within}
 
 pub bounds-right : (c : Record) → AllPassed (checks c) → Bounds c (judgementOfRecord c)
 unfolding boundsOf
 bounds-right c all =
-    let b = sum-bounds-within 0 (lit≤ tt) (cylinderOf (c .wall)) (cylinder-within c all) (whole (c .group .axial)) (whole (c .group .ring)) (whole (c .group .shear)) in
+    let s = cylinderOf (c .wall) in
+    let b = sum-bounds-within 0 (lit≤ tt) s (cylinder-within c all) (whole (c .group .axial)) (whole (ringStress s (c .group .ring))) (whole (c .group .shear)) in
     record { encloses = b .0; close = b .1 }
 
 pub record-right : (c : Record) → Right c (recordAnswer c)
@@ -41,13 +42,13 @@ unfolding recordAnswer
 record-right c = Right.answer-by-right (checks c) (Bounds c) (judgementOfRecord c) refl (bounds-right c)
 
 module _ (c : Record) where
-  -- SCOPE 11.6 and 20.7: no other refusal than 6 to 11
-  pub meets : (n : ℕ) → Right c (Refused n) → Among n (6 ∷ 7 ∷ 11 ∷ 8 ∷ 9 ∷ 10 ∷ [])
+  -- SCOPE 11.6, 20.7 and 22.7: no other refusal than 6 to 11 and 13
+  pub meets : (n : ℕ) → Right c (Refused n) → Among n (6 ∷ 7 ∷ 11 ∷ 8 ∷ 9 ∷ 10 ∷ 13 ∷ [])
   meets n r = Right.refused-among (checks c) (Bounds c) n r
 
-  pub refusal-range : (n : ℕ) → Right c (Refused n) → (6 ≤ n) × (n ≤ 11)
-  refusal-range n r = among-every (λ m. (6 ≤ m) × (m ≤ 11)) (6 ∷ 7 ∷ 11 ∷ 8 ∷ 9 ∷ 10 ∷ []) n (meets n r)
-      ((lit≤ tt, lit≤ tt), ((lit≤ tt, lit≤ tt), ((lit≤ tt, lit≤ tt), ((lit≤ tt, lit≤ tt), ((lit≤ tt, lit≤ tt), ((lit≤ tt, lit≤ tt), tt))))))
+  pub refusal-range : (n : ℕ) → Right c (Refused n) → (6 ≤ n) × (n ≤ 13)
+  refusal-range n r = among-every (λ m. (6 ≤ m) × (m ≤ 13)) (6 ∷ 7 ∷ 11 ∷ 8 ∷ 9 ∷ 10 ∷ 13 ∷ []) n (meets n r)
+      ((lit≤ tt, lit≤ tt), ((lit≤ tt, lit≤ tt), ((lit≤ tt, lit≤ tt), ((lit≤ tt, lit≤ tt), ((lit≤ tt, lit≤ tt), ((lit≤ tt, lit≤ tt), ((lit≤ tt, lit≤ tt), tt)))))))
 
   -- L and U fit the number of an answer
   pub right-bounded : (a : Answer) → Right c a → Bounded a

@@ -1,11 +1,11 @@
--- SCOPE 20.8: where the effective wall is the nominal one, a record has the answers that it had without a shortfall. So it is with a d of 0,
+-- SCOPE 20.8: where the effective wall is the nominal one, a record has the answers that it would have without a shortfall. So it is with a d of 0,
 -- and from t = 500 up with any d that passes check 11. Assumes nothing.
 use mathlib.Core.Path.{_≡_, refl, sym, ap, _∙_, subst}
 use Prim.Native.Nat.{ℕ, _*_, _-_, _≤_}
 use native.Mathlib.Omega.{arith}
 use mathlib.Core.Bool.{Bool, true, false, _&&_}
 use mathlib.Core.Logic.{_↔_, _⊎_, inl, inr}
-use mathlib.Core.List.{[], _∷_}
+use mathlib.Core.List.{List, [], _∷_}
 use lib.Dec.{leb, ltb}
 use borrow.Author.Tests.{le-leb, lt-leb, leb-true, leb-false, le-ltb}
 use Rattle.algebra.specs.Choice.{pick}
@@ -15,12 +15,12 @@ use Rattle.cylinder.specs.Search.{sumBounds}
 use Rattle.answer.specs.declared.Judgement.{Judgement}
 use Rattle.answer.specs.declared.Answer.{Answer}
 use Rattle.answer.specs.declared.Answer.the-variants.{Refused, Judged}
-use Rattle.answer.specs.Checks.{check, FirstBroken}
+use Rattle.answer.specs.Checks.{Check, check, FirstBroken}
 use Rattle.answer.specs.Right.{refused, judged}
 use Rattle.answer.specs.Answering.{firstOr, judgementOf}
 use Rattle.record.specs.declared.Wall.{Wall}
 use Rattle.record.specs.declared.Record.{Record}
-use Rattle.record.specs.Limits.{inRange, edgesKnown, shortfallCounts, effectiveWall, ratioBy, wallRatio, lengthRatio, tolerated, checks, cylinderBy, cylinderOf, withShortfall}
+use Rattle.record.specs.Limits.{inRange, edgesKnown, shortfallCounts, effectiveWall, ratioBy, wallRatio, lengthRatio, tolerated, windAllowed, checks, cylinderBy, cylinderOf, withShortfall}
 use Rattle.record.specs.Right.{GroupOver, BoundsOf, Right}
 use Rattle.record.specs.Nominal.{nominalRatio, nominalChecks, nominalCylinder, NominalRight, nominalBounds, nominalAnswer}
 use Rattle.record.specs.Answering.{groupBounds, boundsOf, recordAnswer}
@@ -48,8 +48,12 @@ module _ (c : Record) (small : c .wall .shortfall ≤ 50) (e : effectiveWall (c 
   same-cylinder : cylinderOf (c .wall) ≡ nominalCylinder (c .wall)
   same-cylinder = ap (λ (x : ℕ). cylinderBy x (c .wall)) e
 
+  -- the checks behind 8
+  abbrev behind : List Check
+  behind = check 9 (lengthRatio (c .wall)) ∷ check 10 (tolerated (c .wall)) ∷ check 13 (windAllowed (c .group .ring)) ∷ []
+
   abbrev From8 : Bool → ℕ → Type 0
-  From8 b n = FirstBroken (check 8 b ∷ check 9 (lengthRatio (c .wall)) ∷ check 10 (tolerated (c .wall)) ∷ []) n
+  From8 b n = FirstBroken (check 8 b ∷ behind) n
 
   abbrev Claim : Cylinder → Judgement → Type 0
   Claim s = BoundsOf (GroupOver s (c .group))
@@ -65,7 +69,7 @@ module _ (c : Record) (small : c .wall .shortfall ≤ 50) (e : effectiveWall (c 
   further n (inr (p, inl x)) = inr (p, inl x)
   further n (inr (p, inr (q, more))) = inr (p, inr (q, inr (passed, subst (λ (b : Bool). From8 b n) (sym same-ratio) more)))
 
-  -- what is right is what was right
+  -- what is right is the same
   pub nominal-right : (a : Answer) → Right c a ↔ NominalRight c a
   nominal-right a = (λ r. to a r, λ r. back a r)
     where
@@ -78,7 +82,7 @@ module _ (c : Record) (small : c .wall .shortfall ≤ 50) (e : effectiveWall (c 
       back _ (judged j (p, (q, (w, more))) b v) =
           judged j (p, (q, (passed, (same-ratio ∙ w, more)))) (subst (λ (s : Cylinder). Claim s j) (sym same-cylinder) b) v
 
-  -- and the program answers as it did
+  -- and so is the program's answer
   pub nominal-answer : recordAnswer c ≡ nominalAnswer c
   unfolding recordAnswer boundsOf nominalAnswer nominalBounds
   nominal-answer = λ i. by (same-cylinder i) (passed i) (same-ratio i)
@@ -87,7 +91,7 @@ module _ (c : Record) (small : c .wall .shortfall ≤ 50) (e : effectiveWall (c 
       by s allowed ratio =
           let b = groupBounds s (c .group) in
           firstOr Refused (Judged (judgementOf (b .low) (b .high)))
-          (check 6 (inRange c) ∷ check 7 (edgesKnown (c .wall)) ∷ check 11 allowed ∷ check 8 ratio ∷ check 9 (lengthRatio (c .wall)) ∷ check 10 (tolerated (c .wall)) ∷ [])
+          (check 6 (inRange c) ∷ check 7 (edgesKnown (c .wall)) ∷ check 11 allowed ∷ check 8 ratio ∷ behind)
 
 -- ---- a record with a d of 0
 

@@ -25,16 +25,16 @@ pub trial-rows : TrialRows
 unfolding boundsOf
 trial-rows =
     record {
-      axial-holds = holding (B 20700 0 0) (refl, (refl, (refl, (refl, (refl, (refl, tt)))))) (lit≤ tt);
-      axial-fails = failing (B 21200 0 0) (refl, (refl, (refl, (refl, (refl, (refl, tt)))))) (lit≤ tt);
-      ring-holds = holding (B 0 2200 0) (refl, (refl, (refl, (refl, (refl, (refl, tt)))))) (lit≤ tt);
-      ring-fails = failing (B 0 2300 0) (refl, (refl, (refl, (refl, (refl, (refl, tt)))))) (lit≤ tt);
-      shear-holds = holding (B 0 0 11500) (refl, (refl, (refl, (refl, (refl, (refl, tt)))))) (lit≤ tt);
-      shear-fails = failing (B 0 0 11900) (refl, (refl, (refl, (refl, (refl, (refl, tt)))))) (lit≤ tt);
-      together-holds = holding (B 10000 1000 5000) (refl, (refl, (refl, (refl, (refl, (refl, tt)))))) (lit≤ tt);
-      together-fails = failing (B 10000 1000 6500) (refl, (refl, (refl, (refl, (refl, (refl, tt)))))) (lit≤ tt);
-      excess-holds = holding (B2000 11100 0 0) (refl, (refl, (refl, (refl, (refl, (refl, tt)))))) (lit≤ tt);
-      excess-fails = failing (B2000 11600 0 0) (refl, (refl, (refl, (refl, (refl, (refl, tt)))))) (lit≤ tt);
-      unloaded-holds = holding (B 0 0 0) (refl, (refl, (refl, (refl, (refl, (refl, tt)))))) (lit≤ tt);
-      most-shear-fails = failing (B 0 0 700000) (refl, (refl, (refl, (refl, (refl, (refl, tt)))))) (lit≤ tt);
+      axial-holds = holding (B 20700 0 0) (refl, (refl, (refl, (refl, (refl, (refl, (refl, tt))))))) (lit≤ tt);
+      axial-fails = failing (B 21200 0 0) (refl, (refl, (refl, (refl, (refl, (refl, (refl, tt))))))) (lit≤ tt);
+      ring-holds = holding (B 0 2200 0) (refl, (refl, (refl, (refl, (refl, (refl, (refl, tt))))))) (lit≤ tt);
+      ring-fails = failing (B 0 2300 0) (refl, (refl, (refl, (refl, (refl, (refl, (refl, tt))))))) (lit≤ tt);
+      shear-holds = holding (B 0 0 11500) (refl, (refl, (refl, (refl, (refl, (refl, (refl, tt))))))) (lit≤ tt);
+      shear-fails = failing (B 0 0 11900) (refl, (refl, (refl, (refl, (refl, (refl, (refl, tt))))))) (lit≤ tt);
+      together-holds = holding (B 10000 1000 5000) (refl, (refl, (refl, (refl, (refl, (refl, (refl, tt))))))) (lit≤ tt);
+      together-fails = failing (B 10000 1000 6500) (refl, (refl, (refl, (refl, (refl, (refl, (refl, tt))))))) (lit≤ tt);
+      excess-holds = holding (B2000 11100 0 0) (refl, (refl, (refl, (refl, (refl, (refl, (refl, tt))))))) (lit≤ tt);
+      excess-fails = failing (B2000 11600 0 0) (refl, (refl, (refl, (refl, (refl, (refl, (refl, tt))))))) (lit≤ tt);
+      unloaded-holds = holding (B 0 0 0) (refl, (refl, (refl, (refl, (refl, (refl, (refl, tt))))))) (lit≤ tt);
+      most-shear-fails = failing (B 0 0 700000) (refl, (refl, (refl, (refl, (refl, (refl, (refl, tt))))))) (lit≤ tt);
     }

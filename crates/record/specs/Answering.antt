@@ -1,4 +1,6 @@
--- How the program answers a record. Nobody has to believe this: `record-right` (proofs/Right.antt) says that the answer is Right.
+-- How the program answers a record. Nobody has to believe this: `record-right` (proofs/Right.antt) says that the answer is Right, and `judged-ring`
+-- (proofs/Wind.antt) what `ringStressOf` is.
+use Prim.Native.Nat.{ℕ}
 use Rattle.cylinder.specs.declared.Cylinder.{Cylinder}
 use Rattle.cylinder.specs.Fraction.{whole}
 use Rattle.cylinder.specs.Search.{Pair, sumBounds}
@@ -9,10 +11,11 @@ use Rattle.answer.specs.Answering.{firstOr, judgementOf}
 use Rattle.record.specs.declared.Group.{Group}
 use Rattle.record.specs.declared.Record.{Record}
 use Rattle.record.specs.Limits.{checks, cylinderOf}
+use Rattle.record.specs.Right.{ringStress}
 
 -- L and U of a group on a cylinder, by the one rule of cylinder's Search, and those of a record
 abbrev pub groupBounds : Cylinder → Group → Pair
-groupBounds s g = sumBounds 0 s (whole (g .axial)) (whole (g .ring)) (whole (g .shear))
+groupBounds s g = sumBounds 0 s (whole (g .axial)) (whole (ringStress s (g .ring))) (whole (g .shear))
 
 unfoldable pub boundsOf : Record → Pair
 unfolding sumBounds
@@ -25,3 +28,7 @@ judgementOfRecord c = judgementOf (boundsOf c .low) (boundsOf c .high)
 unfoldable pub recordAnswer : Record → Answer
 unfolding boundsOf
 recordAnswer c = firstOr Refused (Judged (judgementOfRecord c)) (checks c)
+
+-- the ring stress that a record is judged with, 0 where a check is broken
+unfoldable pub ringStressOf : Record → ℕ
+ringStressOf c = firstOr (λ n. 0) (ringStress (cylinderOf (c .wall)) (c .group .ring)) (checks c)

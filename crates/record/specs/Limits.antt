@@ -1,11 +1,13 @@
--- SCOPE 2, 10.6 to 10.11 and 20: the limits of a record, and its checks in their order.
+-- SCOPE 2, 10.6 to 10.11, 10.13, 20 and 22: the limits of a record, and its checks in their order.
 use Prim.Native.Nat.{ℕ, _*_, _-_}
-use mathlib.Core.Bool.{Bool, _&&_, _||_}
+use mathlib.Core.Bool.{Bool, true, _&&_, _||_}
 use mathlib.Core.List.{List, [], _∷_}
 use lib.Dec.{leb, ltb, eqb}
 use Rattle.algebra.specs.Choice.{pick}
 use Rattle.answer.specs.Checks.{Check, check}
 use Rattle.record.specs.declared.Wall.{Wall}
+use Rattle.record.specs.declared.Ring.{Ring}
+use Rattle.record.specs.declared.Ring.the-variants.{Stress, Wind}
 use Rattle.record.specs.declared.Group.{Group}
 use Rattle.record.specs.declared.Record.{Record}
 use Rattle.cylinder.specs.declared.Cylinder.{Cylinder}
@@ -24,9 +26,13 @@ dimensions w = fromTo 100 50000 (w .radius) && (fromTo 100 10000 (w .thickness) 
 abbrev pub material : Wall → Bool
 material w = fromTo 60000 220000 (w .modulus) && fromTo 100 700 (w .«yield_stress»)
 
--- σx, σφ, τ 0 to 700,000
+-- σx, σφ, τ 0 to 700,000; wind has a check of its own, 13, and never makes a larger σφ (`ring-most`, proofs/Wind.antt)
+abbrev pub ringInRange : Ring → Bool
+ringInRange (Stress σφ) = leb σφ 700000
+ringInRange (Wind w v) = true
+
 abbrev pub stresses : Group → Bool
-stresses g = leb (g .axial) 700000 && (leb (g .ring) 700000 && leb (g .shear) 700000)
+stresses g = leb (g .axial) 700000 && (ringInRange (g .ring) && leb (g .shear) 700000)
 
 abbrev pub inRange : Record → Bool
 inRange c = dimensions (c .wall) && (material (c .wall) && stresses (c .group))
@@ -62,6 +68,11 @@ lengthRatio w = leb (w .radius) (20 * w .length) && leb (w .length) (50 * w .rad
 abbrev pub tolerated : Wall → Bool
 tolerated w = leb (w .imperfection) 2000
 
+-- ---- check 13: w over 10,000, or v not 0 or 1
+abbrev pub windAllowed : Ring → Bool
+windAllowed (Stress σφ) = true
+windAllowed (Wind w v) = leb w 10000 && leb v 1
+
 -- ---- the checks of a record, in their order
 abbrev pub checks : Record → List Check
 checks c =
@@ -71,11 +82,12 @@ checks c =
     ∷ check 8 (wallRatio (c .wall))
     ∷ check 9 (lengthRatio (c .wall))
     ∷ check 10 (tolerated (c .wall))
+    ∷ check 13 (windAllowed (c .group .ring))
     ∷ []
 
--- ---- eleven numbers in the order of the call from C
-abbrev pub recordOf : ℕ → ℕ → ℕ → ℕ → ℕ → ℕ → ℕ → ℕ → ℕ → ℕ → ℕ → Record
-recordOf r t l E fy edges a σx σφ τ d =
+-- ---- the parts of a record in the order of the calls from C
+abbrev pub recordOf : ℕ → ℕ → ℕ → ℕ → ℕ → ℕ → ℕ → ℕ → Ring → ℕ → ℕ → Record
+recordOf r t l E fy edges a σx ring τ d =
     record {
       wall =
           record {
@@ -88,7 +100,7 @@ recordOf r t l E fy edges a σx σφ τ d =
             imperfection = a;
             shortfall = d;
           };
-      group = record { axial = σx; ring = σφ; shear = τ };
+      group = record { axial = σx; ring = ring; shear = τ };
     }
 
 -- ---- the cylinder of a wall, with a thickness in 200ths of a mm; for a wall that is the effective one

@@ -1,5 +1,5 @@
--- What was laid down of a record before SCOPE 20, when it had no shortfall: checks 6 to 10, and the nominal wall in check 8 and in every formula. The laws
--- of proofs/Shortfall.antt compare with it.
+-- What is laid down of a record if SCOPE 20 is left out, so that it has no shortfall: all checks but 11, and the nominal wall in check 8 and in every formula.
+-- The laws of proofs/Shortfall.antt compare with it.
 use Prim.Native.Nat.{ℕ, _*_}
 use mathlib.Core.Bool.{Bool}
 use mathlib.Core.List.{List, [], _∷_}
@@ -12,7 +12,7 @@ use Rattle.answer.specs.Right.{RightBy}
 use Rattle.answer.specs.Answering.{firstOr, judgementOf}
 use Rattle.record.specs.declared.Wall.{Wall}
 use Rattle.record.specs.declared.Record.{Record}
-use Rattle.record.specs.Limits.{fromTo, inRange, edgesKnown, lengthRatio, tolerated, cylinderBy}
+use Rattle.record.specs.Limits.{fromTo, inRange, edgesKnown, lengthRatio, tolerated, windAllowed, cylinderBy}
 use Rattle.record.specs.Right.{GroupOver, BoundsOf}
 use Rattle.record.specs.Answering.{groupBounds}
 
@@ -27,6 +27,7 @@ nominalChecks c =
     ∷ check 8 (nominalRatio (c .wall))
     ∷ check 9 (lengthRatio (c .wall))
     ∷ check 10 (tolerated (c .wall))
+    ∷ check 13 (windAllowed (c .group .ring))
     ∷ []
 
 -- the wall is t, in 200ths of a mm
@@ -36,7 +37,7 @@ nominalCylinder w = cylinderBy (2 * w .thickness) w
 abbrev pub NominalRight : Record → Answer → Type 0
 NominalRight c = RightBy (nominalChecks c) (BoundsOf (GroupOver (nominalCylinder (c .wall)) (c .group)))
 
--- how the program answered, to be compared with `recordAnswer`; what is right does not need it
+-- how the program would answer then, to be compared with `recordAnswer`; what is right does not need it
 unfoldable pub nominalBounds : Record → Pair
 unfolding sumBounds
 nominalBounds c = groupBounds (nominalCylinder (c .wall)) (c .group)

@@ -1,21 +1,33 @@
--- SCOPE 6, 9.12 and 9.13: what is laid down of the answer to a record.
+-- SCOPE 6, 9.12, 9.13 and 22: what is laid down of the answer to a record.
 use Prim.Native.Nat.{ℕ}
 use Rattle.cylinder.specs.declared.Cylinder.{Cylinder}
 use Rattle.cylinder.specs.Fraction.{whole}
 use Rattle.cylinder.specs.Exact.{AtMost, AtLeast, Encloses, Close}
 use Rattle.cylinder.specs.Sum.{Over}
+use Rattle.wind.specs.Wind.{windStress}
 use Rattle.answer.specs.declared.Verdict.{Verdict}
 use Rattle.answer.specs.declared.Verdict.the-variants.{Holds, Fails, Open}
 use Rattle.answer.specs.declared.Judgement.{Judgement}
 use Rattle.answer.specs.declared.Answer.{Answer}
 use Rattle.answer.specs.Right.{RightBy}
+use Rattle.record.specs.declared.Ring.{Ring}
+use Rattle.record.specs.declared.Ring.the-variants.{Stress, Wind}
 use Rattle.record.specs.declared.Group.{Group}
 use Rattle.record.specs.declared.Record.{Record}
 use Rattle.record.specs.Limits.{checks, cylinderOf}
 
+-- the ring stress on a cylinder in kN/m²: the plain one, or the whole number that wind is turned into
+abbrev pub ringStress : Cylinder → Ring → ℕ
+ringStress s (Stress σφ) = σφ
+ringStress s (Wind w v) = windStress s w v
+
+-- the record with that stress as a plain one
+abbrev pub asStress : Record → Record
+asStress c = record { wall = c .wall; group = record { axial = c .group .axial; ring = Stress (ringStress (cylinderOf (c .wall)) (c .group .ring)); shear = c .group .shear } }
+
 -- the exact sum of a group on a cylinder is over x/y, and that of a record
 abbrev pub GroupOver : Cylinder → Group → ℕ → ℕ → Type 0
-GroupOver s g = Over s (whole (g .axial)) (whole (g .ring)) (whole (g .shear))
+GroupOver s g = Over s (whole (g .axial)) (whole (ringStress s (g .ring))) (whole (g .shear))
 
 abbrev pub RecordOver : Record → ℕ → ℕ → Type 0
 RecordOver c = GroupOver (cylinderOf (c .wall)) (c .group)

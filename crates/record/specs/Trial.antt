@@ -6,17 +6,18 @@ use Rattle.answer.specs.declared.Verdict.the-variants.{Holds, Fails}
 use Rattle.answer.specs.declared.Judgement.{Judgement}
 use Rattle.answer.specs.declared.Answer.{Answer}
 use Rattle.answer.specs.declared.Answer.the-variants.{Judged}
+use Rattle.record.specs.declared.Ring.the-variants.{Stress}
 use Rattle.record.specs.declared.Record.{Record}
 use Rattle.record.specs.Limits.{recordOf}
 use Rattle.record.specs.Right.{RecordOver, Right, Means}
 
 -- B is 5000 500 10000 210000 240 12 1000, with no shortfall
 abbrev pub B : ℕ → ℕ → ℕ → Record
-B σx σφ τ = recordOf 5000 500 10000 210000 240 12 1000 σx σφ τ 0
+B σx σφ τ = recordOf 5000 500 10000 210000 240 12 1000 σx (Stress σφ) τ 0
 
 -- B with a = 2000
 abbrev pub B2000 : ℕ → ℕ → ℕ → Record
-B2000 σx σφ τ = recordOf 5000 500 10000 210000 240 12 2000 σx σφ τ 0
+B2000 σx σφ τ = recordOf 5000 500 10000 210000 240 12 2000 σx (Stress σφ) τ 0
 
 pub record Row (c : Record) (v : Verdict) : Type 0 where
   pub meant : Means (RecordOver c) v

@@ -1,11 +1,13 @@
 // One record: its limits, and its judge.
 ghost use mathlib.Core.Path.{_≡_};
+ghost use mathlib.Core.Bool.{true};
 ghost use Prim.Native.Nat.{_*_, _≤_};
 ghost use Rattle.answer.specs.Checks.{AllPassed};
 ghost use Rattle.answer.specs.Answering.{refusalBy};
-ghost use Rattle.record.specs.Limits.{fromTo, inRange, dimensions, material, stresses, edgesKnown, effectiveWall, wallRatio, lengthRatio, tolerated, checks, cylinderOf, recordOf};
-ghost use Rattle.record.specs.Right.{Right};
-ghost use Rattle.record.specs.Answering.{judgementOfRecord, recordAnswer};
+ghost use Rattle.cylinder.specs.InLimits.{InLimits};
+ghost use Rattle.record.specs.Limits.{fromTo, inRange, dimensions, material, ringInRange, stresses, edgesKnown, effectiveWall, wallRatio, lengthRatio, tolerated, windAllowed, checks, cylinderOf, recordOf};
+ghost use Rattle.record.specs.Right.{ringStress, Right};
+ghost use Rattle.record.specs.Answering.{judgementOfRecord, recordAnswer, ringStressOf};
 use answer::Answer;
 use answer::Judgement;
 use bounds::Load;
@@ -31,12 +33,20 @@ pub struct Wall {
     pub shortfall: u64,
 }
 
+// The load around the shell.
+pub enum Ring {
+    // σφ
+    Stress(u64),
+    // w, gust pressure at the stagnation point, N/m²; v, 0 for a closed shell, 1 for an open or vented one
+    Wind(u64, u64),
+}
+
 // A stress group, kN/m², compression positive.
 pub struct Group {
     // σx
     pub axial: u64,
-    // σφ
-    pub ring: u64,
+    // σφ, or the wind that makes it
+    pub ring: Ring,
     // τ
     pub shear: u64,
 }
@@ -165,13 +175,54 @@ impl Wall {
     }
 }
 
+impl Ring {
+    // Whether a plain stress lies in its range; wind has check 13.
+    fn is_in_range(self) -> bool
+        ensures { λ r. ⌜ r ≡ ringInRange self ⌝ }
+    {
+        match self {
+            Ring::Stress(stress) => stress <= Record::STRESS_MOST,
+            Ring::Wind(_, _) => true,
+        }
+    }
+
+    // Whether the load passes check 13.
+    fn has_allowed_wind(self) -> bool
+        ensures { λ r. ⌜ r ≡ windAllowed self ⌝ }
+    {
+        match self {
+            Ring::Stress(_) => true,
+            Ring::Wind(gust, vented) => {
+                if gust <= Record::GUST_MOST {
+                    vented <= Record::VENTED
+                } else {
+                    false
+                }
+            }
+        }
+    }
+
+    // The ring stress on a cylinder.
+    fn stress_on(self, s: Cylinder) -> u64
+        requires { ⌜ InLimits s × (ringInRange self ≡ true) × (windAllowed self ≡ true) ⌝ }
+        ensures { λ r. ⌜ r ≡ ringStress s self ⌝ }
+        ensures { λ r. ⌜ r ≤ 700000 ⌝ }
+    {
+        match self {
+            Ring::Stress(stress) => stress,
+            Ring::Wind(gust, vented) => wind::ring_stress(s, gust, vented),
+        }
+    }
+}
+
 impl Group {
     // Whether each stress lies in its range.
     fn has_stresses(self) -> bool
         ensures { λ r. ⌜ r ≡ stresses self ⌝ }
     {
+        let ring = self.ring;
         if self.axial <= Record::STRESS_MOST {
-            if self.ring <= Record::STRESS_MOST {
+            if ring.is_in_range() {
                 self.shear <= Record::STRESS_MOST
             } else {
                 false
@@ -208,6 +259,11 @@ impl Record {
     pub const IMPERFECTION_MOST: u64 = 2000;
 
     pub const SHORTFALL_MOST: u64 = 50;
+
+    pub const GUST_MOST: u64 = 10000;
+
+    // an open or vented shell; 0 is a closed one
+    pub const VENTED: u64 = 1;
 
     // from this thickness up the effective wall is the nominal one
     pub const THICKNESS_AS_NOMINAL: u64 = 500;
@@ -254,8 +310,9 @@ impl Record {
         let wall = self.wall;
         let group = self.group;
         let s = wall.cylinder();
+        let ring = group.ring;
         let x = load(group.axial);
-        let y = load(group.ring);
+        let y = load(ring.stress_on(s));
         let z = load(group.shear);
         let b = bounds::of_sum(s, x, y, z, 0);
         Judgement::by_bounds(b.low, b.high)
@@ -266,6 +323,8 @@ impl Record {
         ensures { λ r. ⌜ r ≡ refusalBy (checks self) ⌝ }
     {
         let wall = self.wall;
+        let group = self.group;
+        let ring = group.ring;
         if !self.is_in_range() {
             return 6;
         }
@@ -284,7 +343,23 @@ impl Record {
         if Self::IMPERFECTION_MOST < wall.imperfection {
             return 10;
         }
+        if !ring.has_allowed_wind() {
+            return 13;
+        }
         0
+    }
+
+    // The ring stress that the record is judged with, 0 where it breaks a check.
+    pub fn ring_stress(self) -> u64
+        ensures { λ r. ⌜ r ≡ ringStressOf self ⌝ }
+    {
+        let wall = self.wall;
+        let group = self.group;
+        let ring = group.ring;
+        if 0 < self.refusal() {
+            return 0;
+        }
+        ring.stress_on(wall.cylinder())
     }
 
     // The answer to a record: the number of the first check that it breaks, or the judgement.
@@ -298,8 +373,8 @@ impl Record {
         Answer::Judged(self.judgement())
     }
 
-    // The answer to the record of eleven numbers in the order of the call from C.
-    pub fn judge(
+    // The record of its parts in the order of the calls from C.
+    pub fn of(
         radius: u64,
         thickness: u64,
         length: u64,
@@ -308,12 +383,11 @@ impl Record {
         edges: u64,
         imperfection: u64,
         axial: u64,
-        ring: u64,
+        ring: Ring,
         shear: u64,
         shortfall: u64,
-    ) -> Answer
-        ensures { λ r. ⌜ r ≡ recordAnswer (recordOf radius thickness length modulus «yield_stress» edges imperfection axial ring shear shortfall) ⌝ }
-        ensures { λ r. ⌜ Right (recordOf radius thickness length modulus «yield_stress» edges imperfection axial ring shear shortfall) r ⌝ }
+    ) -> Record
+        ensures { λ r. ⌜ r ≡ recordOf radius thickness length modulus «yield_stress» edges imperfection axial ring shear shortfall ⌝ }
     {
         let wall = Wall {
             radius,
@@ -326,7 +400,38 @@ impl Record {
             shortfall,
         };
         let group = Group { axial, ring, shear };
-        let c = Record { wall, group };
+        Record { wall, group }
+    }
+    // The answer to the record of these parts.
+    pub fn judge(
+        radius: u64,
+        thickness: u64,
+        length: u64,
+        modulus: u64,
+        yield_stress: u64,
+        edges: u64,
+        imperfection: u64,
+        axial: u64,
+        ring: Ring,
+        shear: u64,
+        shortfall: u64,
+    ) -> Answer
+        ensures { λ r. ⌜ r ≡ recordAnswer (recordOf radius thickness length modulus «yield_stress» edges imperfection axial ring shear shortfall) ⌝ }
+        ensures { λ r. ⌜ Right (recordOf radius thickness length modulus «yield_stress» edges imperfection axial ring shear shortfall) r ⌝ }
+    {
+        let c = Self::of(
+            radius,
+            thickness,
+            length,
+            modulus,
+            yield_stress,
+            edges,
+            imperfection,
+            axial,
+            ring,
+            shear,
+            shortfall,
+        );
         c.answer()
     }
 }

@@ -38,6 +38,7 @@ pub fn answer(line: &[u8]) -> Answer
     };
     let w = c.wall;
     let g = c.group;
+    let ring = g.ring;
     Record::judge(
         w.radius,
         w.thickness,
@@ -47,7 +48,7 @@ pub fn answer(line: &[u8]) -> Answer
         w.edges,
         w.imperfection,
         g.axial,
-        g.ring,
+        ring,
         g.shear,
         w.shortfall,
     )

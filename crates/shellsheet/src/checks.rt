@@ -1,4 +1,4 @@
-// Refusals 6 to 11 in words: what broke the check.
+// Refusals 6 to 11 and 13 in words: what broke the check.
 use crate::say::say;
 use crate::say::say_decimal;
 use crate::say::say_one;
@@ -6,6 +6,7 @@ use crate::say::say_three;
 use crate::say::say_two;
 use record::Group;
 use record::Record;
+use record::Ring;
 use record::Wall;
 ghost use Prim.Native.Nat.{_≤_};
 
@@ -66,9 +67,18 @@ fn say_material(ok: bool, w: Wall) -> bool {
     )
 }
 
+// A plain σφ.
+fn say_ring(ok: bool, r: Ring) -> bool {
+    match r {
+        Ring::Stress(stress) => say_range(ok, b"; sphi (kN/m2)", stress, 0, Record::STRESS_MOST),
+        Ring::Wind(_, _) => ok,
+    }
+}
+
 fn say_stresses(ok: bool, g: Group) -> bool {
+    let ring = g.ring;
     let ok = say_range(ok, b"; sx (kN/m2)", g.axial, 0, Record::STRESS_MOST);
-    let ok = say_range(ok, b"; sphi (kN/m2)", g.ring, 0, Record::STRESS_MOST);
+    let ok = say_ring(ok, ring);
     say_range(ok, b"; tau (kN/m2)", g.shear, 0, Record::STRESS_MOST)
 }
 
@@ -183,10 +193,23 @@ fn say_imperfection(ok: bool, a: u64) -> bool {
     )
 }
 
+// 13
+fn say_wind(ok: bool, r: Ring) -> bool {
+    let ok = say(ok, b"the wind is out of range");
+    match r {
+        Ring::Stress(_) => ok,
+        Ring::Wind(gust, vented) => {
+            let ok = say_range(ok, b"; w (N/m2)", gust, 0, Record::GUST_MOST);
+            say_range(ok, b"; v", vented, 0, Record::VENTED)
+        }
+    }
+}
+
 // Why a record is refused by n.
 pub(crate) fn say_check(ok: bool, n: u64, c: Record) -> bool {
     let w = c.wall;
     let g = c.group;
+    let ring = g.ring;
     match n {
         6 => say_ranges(ok, w, g),
         7 => say_edges(ok, w.edges),
@@ -194,6 +217,7 @@ pub(crate) fn say_check(ok: bool, n: u64, c: Record) -> bool {
         9 => say_length_ratio(ok, w.length, w.radius),
         10 => say_imperfection(ok, w.imperfection),
         11 => say_shortfall(ok, w.shortfall),
+        13 => say_wind(ok, ring),
         _ => say(ok, b"it breaks a check that has no words"),
     }
 }

@@ -16,12 +16,17 @@ use listing::Counts;
 use reading::Form;
 use reading::read;
 use record::Group;
+use record::Record;
+use record::Ring;
 
 // A bound of 2 or more is no upper bound: a sum over 2 has it too.
 const SUM_MOST: u64 = 20000;
 
 // Below so many kN/m², 1 N/mm², the stresses of a shell look as if they were typed in N/mm².
 const STRESS_LOW: u64 = 1000;
+
+// Below so many N/m² a gust pressure looks as if it were typed in kN/m².
+const GUST_LOW: u64 = 100;
 
 // The sum by its bounds.
 fn say_sum(ok: bool, low: u64, high: u64) -> bool {
@@ -39,33 +44,87 @@ fn say_sum(ok: bool, low: u64, high: u64) -> bool {
     say_decimal(ok, high)
 }
 
+// The remark on the unit of a gust pressure, where it looks mistaken.
+fn say_gust(ok: bool, gust: u64) -> bool {
+    if gust == 0 {
+        return ok;
+    }
+    if GUST_LOW <= gust {
+        return ok;
+    }
+    say(
+        ok,
+        b"; w is below 100 N/m2, and 1 kN/m2 is 1000 N/m2: is it in N/m2?",
+    )
+}
+
+// The whole ring stress that wind is turned into; nothing of a plain one.
+fn say_wind(ok: bool, c: Record, r: Ring) -> bool {
+    match r {
+        Ring::Stress(_) => ok,
+        Ring::Wind(gust, _) => {
+            let ok = say_one(
+                ok,
+                b"; the wind makes a ring stress of % kN/m2",
+                c.ring_stress(),
+            );
+            say_gust(ok, gust)
+        }
+    }
+}
+
+// σφ as it was typed; 0 for wind, which is typed in N/m².
+fn typed_ring(r: Ring) -> u64 {
+    match r {
+        Ring::Stress(stress) => stress,
+        Ring::Wind(_, _) => 0,
+    }
+}
+
 // Whether stresses look as if they were typed in N/mm²: not all are 0, and all are low.
-fn looks_mistaken(g: Group) -> bool {
-    if STRESS_LOW <= g.axial {
+fn looks_mistaken(axial: u64, ring: u64, shear: u64) -> bool {
+    if STRESS_LOW <= axial {
         return false;
     }
-    if STRESS_LOW <= g.ring {
+    if STRESS_LOW <= ring {
         return false;
     }
-    if STRESS_LOW <= g.shear {
+    if STRESS_LOW <= shear {
         return false;
     }
-    0 < g.axial + g.ring + g.shear
+    0 < axial + ring + shear
+}
+
+// The stresses that were typed.
+fn say_typed(ok: bool, r: Ring) -> bool {
+    match r {
+        Ring::Stress(_) => say(ok, b"; all stresses"),
+        Ring::Wind(_, _) => say(ok, b"; sx and tau"),
+    }
 }
 
 // The remark on units, where stresses look mistaken.
-fn say_units(ok: bool, line: &[u8]) -> bool {
+fn say_units(ok: bool, g: Group) -> bool {
+    let ring = g.ring;
+    if !looks_mistaken(g.axial, typed_ring(ring), g.shear) {
+        return ok;
+    }
+    let ok = say_typed(ok, ring);
+    say(
+        ok,
+        b" are below 1 N/mm2, and 1 N/mm2 is 1000 kN/m2: are they in kN/m2?",
+    )
+}
+
+// The remarks on a record that has a verdict.
+fn say_remarks(ok: bool, line: &[u8]) -> bool {
     let Form::Read(c) = read(line) else {
         return ok;
     };
     let g = c.group;
-    if looks_mistaken(g) {
-        return say(
-            ok,
-            b"; all stresses are below 1 N/mm2, and 1 N/mm2 is 1000 kN/m2: are they in kN/m2?",
-        );
-    }
-    ok
+    let ring = g.ring;
+    let ok = say_wind(ok, c, ring);
+    say_units(ok, g)
 }
 
 // Which word a verdict has, of those in `say_judged`.
@@ -82,7 +141,7 @@ fn say_judged(ok: bool, j: Judgement, line: &[u8]) -> bool {
     let verdict = j.verdict;
     let ok = say_piece(ok, b" holds% fails% is open", verdict_word(verdict));
     let ok = say_sum(ok, j.low, j.high);
-    say_units(ok, line)
+    say_remarks(ok, line)
 }
 
 // Why a line is refused by n.

@@ -18,7 +18,11 @@ fn say_name(ok: bool, want: u8) -> bool {
     if want < 65 {
         return ok;
     }
-    say_piece(ok, b"r%t%l%E%fy%edges%a%d%sx%sphi%tau", (want - 65) as u64)
+    say_piece(
+        ok,
+        b"r%t%l%E%fy%edges%a%d%sx%sphi%tau%w%v",
+        (want - 65) as u64,
+    )
 }
 
 // What the form wants: a number by its name, or a byte.
@@ -30,24 +34,32 @@ fn say_want(ok: bool, want: u8) -> bool {
     say_byte(ok, want)
 }
 
+// What a minus may tell, but before a number of wind, which has no sign.
+fn say_sign(ok: bool, want: u8) -> bool {
+    match want {
+        b'L' | b'M' => ok,
+        _ => say(ok, b"; compression is positive, and tension is not covered"),
+    }
+}
+
 // What a byte may tell that stands where the form wants another.
-fn say_hint(ok: bool, b: u8) -> bool {
+fn say_hint(ok: bool, b: u8, want: u8) -> bool {
     match b {
-        b'-' => say(ok, b"; compression is positive, and tension is not covered"),
+        b'-' => say_sign(ok, want),
         b'.' | b',' => say(ok, b"; numbers are whole"),
         _ => ok,
     }
 }
 
 // What stands at a place where the form wants something else.
-fn say_found(ok: bool, line: &[u8], at: usize) -> bool {
+fn say_found(ok: bool, line: &[u8], at: usize, want: u8) -> bool {
     if line.len() <= at {
         return say(ok, b"the line ends");
     }
     let b = line[at];
     let ok = say_byte(ok, b);
     let ok = say(ok, b" stands there");
-    say_hint(ok, b)
+    say_hint(ok, b, want)
 }
 
 // What is wrong with digits that stand where the form wants a number: 1 for a leading zero, 2 for too many, 0 where no digits stand there.
@@ -88,7 +100,7 @@ fn say_expected(ok: bool, line: &[u8], at: usize, want: u8) -> bool {
     }
     let ok = say_want(ok, want);
     let ok = say(ok, b" was expected, and ");
-    say_found(ok, line, at)
+    say_found(ok, line, at, want)
 }
 
 // What stands behind the form.

@@ -77,9 +77,9 @@ fn item_end(line: &[u8], at: usize, want: u8) -> usize {
     at
 }
 
-// Where `line` stops being of `form`, byte by byte: a capital stands for a number, any other byte for itself.
-fn scan(line: &[u8], form: &[u8]) -> Stop {
-    let mut at: usize = 0;
+// Where `line` stops, from `from` on, being of `form`, byte by byte: a capital stands for a number, any other byte for itself.
+fn scan(line: &[u8], from: usize, form: &[u8]) -> Stop {
+    let mut at = from;
     let mut i = 0;
     while i < form.len() {
         let want = form[i];
@@ -93,25 +93,52 @@ fn scan(line: &[u8], form: &[u8]) -> Stop {
     Stop::Behind(at)
 }
 
-// Whether a line that stopped so is one without a shortfall: no digit stands where H, the shortfall, would.
-fn lacks_shortfall(stop: Stop, line: &[u8]) -> bool {
-    let Stop::Expected(at, want) = stop else {
-        return false;
-    };
-    if want != b'H' {
-        return false;
+// The same behind what was scanned before, unless the line has stopped there.
+fn then(line: &[u8], before: Stop, form: &[u8]) -> Stop {
+    match before {
+        Stop::Expected(at, want) => Stop::Expected(at, want),
+        Stop::Behind(at) => scan(line, at, form),
     }
-    if line.len() <= at {
-        return true;
-    }
-    !is_digit(line[at])
 }
 
-// Where `line` stops being of the form: this is the whole grammar, and `say_name` in form.rt has the names of A, B and so on.
-pub(crate) fn scan_line(line: &[u8]) -> Stop {
-    let stop = scan(line, b"(shell A B C D E F G H (stress I J K))");
-    if lacks_shortfall(stop, line) {
-        return scan(line, b"(shell A B C D E F G (stress I J K))");
+// Whether a digit stands behind the byte at `at`.
+fn digit_behind(line: &[u8], at: usize) -> bool {
+    if line.len() <= at {
+        return false;
     }
-    stop
+    if line.len() <= at + 1 {
+        return false;
+    }
+    is_digit(line[at + 1])
+}
+
+// The shortfall, which may be left out.
+fn then_shortfall(line: &[u8], before: Stop) -> Stop {
+    let Stop::Behind(at) = before else {
+        return before;
+    };
+    if digit_behind(line, at) {
+        return scan(line, at, b" H");
+    }
+    before
+}
+
+// σφ, or wind in its place.
+fn then_ring(line: &[u8], before: Stop) -> Stop {
+    let Stop::Behind(at) = before else {
+        return before;
+    };
+    if item_end(line, at, b'(') == at {
+        return scan(line, at, b"J");
+    }
+    scan(line, at, b"(wind L M)")
+}
+
+// Where `line` stops being of the form: with the two parts above this is the whole grammar, and `say_name` in form.rt has the names of A, B and so on.
+pub(crate) fn scan_line(line: &[u8]) -> Stop {
+    let stop = scan(line, 0, b"(shell A B C D E F G");
+    let stop = then_shortfall(line, stop);
+    let stop = then(line, stop, b" (stress I ");
+    let stop = then_ring(line, stop);
+    then(line, stop, b" K))")
 }

@@ -8,23 +8,18 @@ use native.Mathlib.Omega.{arith}
 use lib.Dec.{leb}
 use borrow.Author.Tests.{leb-true, le-leb}
 use Rattle.algebra.specs.Bisection.{Edge}
-use Rattle.algebra.proofs.Bisection.{bisect-edge}
 use Rattle.wide.specs.Value.{base}
 use Rattle.cylinder.specs.Cut.{Cut, smaller}
 use Rattle.algebra.proofs.Tests.{and-true, both-true, and-rest, missed-left, missed-right}
 use Rattle.cylinder.proofs.Lawful.{Lawful}
 use Rattle.roots.specs.Largest.{test, largest}
-use Rattle.roots.proofs.Largest.{nothing, over}
+use Rattle.roots.proofs.Largest.{largest-edge}
 use Rattle.cylinder.specs.declared.Cylinder.{Cylinder}
 use Rattle.cylinder.specs.declared.Stress.{Stress}
 use Rattle.ideal.specs.Decision.{cutOf}
 use Rattle.slenderness_grid.specs.Highest.{Highest}
 
 -- ---- by a root
-
-largest-edge : (e cap x y : ℕ) → 0 < e → cap < base → Edge (test e cap x y) (largest e cap x y)
-unfolding largest
-largest-edge e cap x y pos small = bisect-edge (test e cap x y) 32 0 (cap + 1) (omega arith) (omega arith) (nothing e cap x y pos) (over e cap x y (cap + 1) (omega arith))
 
 -- c reaches k/q exactly if k ^ e * X is at most Y
 pub by-root : (c : Cut) (q cap e X Y : ℕ) {r x y : ℕ} → 0 < e → cap < base → ((k : ℕ) → c .reaches k q ≡ leb (k ^ e * X) Y) → r ≡ largest e cap x y → x ≡ X → y ≡ Y →

@@ -1,6 +1,6 @@
 -- What the writer does is laid down so; what it puts is short enough, is one line, and reads as the record; and a line with a verdict is written again as it
 -- was, apart from a d that it lacks. Assumes nothing.
-use mathlib.Core.Path.{_≡_, refl, sym, _∙_, subst}
+use mathlib.Core.Path.{_≡_, refl, sym, ap, _∙_, subst}
 use Prim.Native.Nat.{ℕ, _+_, _≤_, _<_}
 use native.Mathlib.Omega.{arith}
 use mathlib.Core.Bool.{true, _||_}
@@ -21,15 +21,18 @@ use Rattle.answer.specs.declared.Judgement.{Judgement}
 use Rattle.answer.specs.Right.{refused, judged}
 use Rattle.answer.proofs.Checks.{first-or, first-broken, all-passed, refusal-broken, refusal-none}
 use Rattle.record.specs.declared.Wall.{Wall}
+use Rattle.record.specs.declared.Ring.{Ring}
+use Rattle.record.specs.declared.Ring.the-variants.{Stress, Wind}
 use Rattle.record.specs.declared.Group.{Group}
 use Rattle.record.specs.declared.Record.{Record}
-use Rattle.record.specs.Limits.{checks}
+use Rattle.record.specs.Limits.{ringInRange, windAllowed, checks}
 use Rattle.record.specs.Right.{Right}
 use Rattle.record.specs.Answering.{recordAnswer}
 use Rattle.answer.specs.Answering.{refusalBy}
 use Rattle.record.proofs.Checks.{ranges, above-none}
+use Rattle.record.proofs.Wind.{wind-limits}
 use Rattle.record.proofs.Right.{refusal-range}
-use Rattle.reading.specs.Text.{wallText, groupText, Small, text, textWithoutShortfall, Spells}
+use Rattle.reading.specs.Text.{wallText, ringText, groupText, SmallRing, Small, text, textWithoutShortfall, Spells}
 use Rattle.reading.specs.Answers.{RightLine, too-long, not-form, of-record}
 use Rattle.reading.specs.Reading.{formOf}
 use Rattle.reading.specs.Answering.{answerTo}
@@ -41,7 +44,7 @@ use Rattle.writer.specs.declared.Written.{Written}
 use Rattle.writer.specs.declared.Written.the-variants.{Put, Refused}
 use Rattle.writer.specs.Writing.{writerChecks, lineOf, startingWith, Writes, refuses, puts, writtenNumber}
 use Rattle.writer.specs.Writer.{writing}
-use Rattle.writer.proofs.Puts.{wall-length, group-length, line-length}
+use Rattle.writer.proofs.Puts.{wall-length, wind-length, group-length, line-length}
 
 -- ---- the answer and the buffer are as laid down
 
@@ -67,9 +70,13 @@ edges-between n h = go (or-true (eqb n 11) (eqb n 12 || eqb n 22) h)
     go (inl e) = (omega (arith, eqb-true n 11 e), omega (arith, eqb-true n 11 e))
     go (inr e) = more (or-true (eqb n 12) (eqb n 22) e)
 
+ring-small : (r : Ring) → ringInRange r ≡ true → windAllowed r ≡ true → SmallRing r
+ring-small (Stress σφ) h g = omega (arith, leb-true σφ 700000 h)
+ring-small (Wind w v) h g = let (most, vented) = wind-limits w v g in (omega (arith, most), omega (arith, vented))
+
 pub passed-small : (c : Record) → AllPassed (checks c) → Small c
 unfolding Small
-passed-small c (r, (e, (d, (w, (l, (t, u)))))) =
+passed-small c (r, (e, (d, (w, (l, (t, (g, u))))))) =
     let rs = ranges c r in (
       (
         omega (arith, rs .radius .most),
@@ -81,14 +88,14 @@ passed-small c (r, (e, (d, (w, (l, (t, u)))))) =
         omega (arith, leb-true (c .wall .imperfection) 2000 t),
         omega (arith, leb-true (c .wall .shortfall) 50 d),
       ),
-      (omega (arith, rs .axial), omega (arith, rs .ring), omega (arith, rs .shear)),
+      (omega (arith, rs .axial), ring-small (c .group .ring) (rs .ring) g, omega (arith, rs .shear)),
     )
 
 -- ---- the line has no newline within it
 
-fixed-plain : (plain (ascii " ") ≡ true) × (plain (ascii ")") ≡ true) × (plain (ascii "(stress ") ≡ true) × (plain (ascii "(shell ") ≡ true)
+fixed-plain : (plain (ascii " ") ≡ true) × (plain (ascii ")") ≡ true) × (plain (ascii "(stress ") ≡ true) × (plain (ascii "(shell ") ≡ true) × (plain (ascii "(wind ") ≡ true)
 unfolding plain
-fixed-plain = (refl, refl, refl, refl)
+fixed-plain = (refl, refl, refl, refl, refl)
 
 next-plain : (xs : List ℕ) (n : ℕ) → plain xs ≡ true → plain (xs ++ ascii " " ++ decimal n) ≡ true
 next-plain xs n h = plain-append (xs ++ ascii " ") (decimal n) (plain-append xs (ascii " ") h (fixed-plain .0)) (decimal-plain n)
@@ -96,9 +103,14 @@ next-plain xs n h = plain-append (xs ++ ascii " ") (decimal n) (plain-append xs 
 wall-plain : (w : Wall) → plain (wallText w) ≡ true
 wall-plain w = next-plain _ _ (next-plain _ _ (next-plain _ _ (next-plain _ _ (next-plain _ _ (next-plain _ _ (next-plain _ _ (decimal-plain (w .radius))))))))
 
+ring-plain : (r : Ring) → plain (ringText r) ≡ true
+ring-plain (Stress σφ) = decimal-plain σφ
+ring-plain (Wind w v) = plain-append _ (ascii ")") (next-plain _ _ (plain-append (ascii "(wind ") (decimal w) (fixed-plain .4) (decimal-plain w))) (fixed-plain .1)
+
 group-plain : (g : Group) → plain (groupText g) ≡ true
 group-plain g =
-    plain-append _ (ascii ")") (next-plain _ _ (next-plain _ _ (plain-append (ascii "(stress ") (decimal (g .axial)) (fixed-plain .2) (decimal-plain (g .axial))))) (fixed-plain .1)
+    let start = plain-append (ascii "(stress ") (decimal (g .axial)) (fixed-plain .2) (decimal-plain (g .axial)) in
+    plain-append _ (ascii ")") (next-plain _ _ (plain-append _ (ringText (g .ring)) (plain-append _ (ascii " ") start (fixed-plain .0)) (ring-plain (g .ring)))) (fixed-plain .1)
 
 text-plain : (c : Record) → plain (text c) ≡ true
 unfolding text
@@ -106,6 +118,17 @@ text-plain c =
     plain-append _ (ascii ")")
     (plain-append _ (groupText (c .group)) (plain-append _ (ascii " ") (plain-append (ascii "(shell ") (wallText (c .wall)) (fixed-plain .3) (wall-plain (c .wall))) (fixed-plain .0)) (group-plain (c .group)))
     (fixed-plain .1)
+
+-- ---- the length of the ring's text
+
+ring-short : (r : Ring) → ringInRange r ≡ true → windAllowed r ≡ true → length (ringText r) ≤ 14
+ring-short (Stress σφ) h g = omega (arith, decimal-length 5 σφ (omega (arith, leb-true σφ 700000 h)))
+ring-short (Wind w v) h g =
+    let (most, vented) = wind-limits w v g in omega (arith, wind-length w v, decimal-length 4 w (omega (arith, most)), decimal-length 0 v (omega (arith, vented)))
+
+ring-some : (r : Ring) → 1 ≤ length (ringText r)
+ring-some (Stress σφ) = decimal-some σφ
+ring-some (Wind w v) = omega (arith, wind-length w v)
 
 module _ (c : Record) (all : AllPassed (checks c)) where
   -- ---- what is put
@@ -115,8 +138,8 @@ module _ (c : Record) (all : AllPassed (checks c)) where
   unfolding Spells
   line-spells = (passed-small c all, inl refl)
 
-  -- has at most 79 bytes, so that 128 are enough
-  pub line-short : length (lineOf c) ≤ 79
+  -- has at most 87 bytes, so that 128 are enough
+  pub line-short : length (lineOf c) ≤ 87
   line-short =
       let rs = ranges c (all .0) in
       omega (
@@ -133,7 +156,7 @@ module _ (c : Record) (all : AllPassed (checks c)) where
         decimal-length 3 (c .wall .imperfection) (omega (arith, leb-true (c .wall .imperfection) 2000 (all .1 .1 .1 .1 .1 .0))),
         decimal-length 1 (c .wall .shortfall) (omega (arith, leb-true (c .wall .shortfall) 50 (all .1 .1 .0))),
         decimal-length 5 (c .group .axial) (omega (arith, rs .axial)),
-        decimal-length 5 (c .group .ring) (omega (arith, rs .ring)),
+        ring-short (c .group .ring) (rs .ring) (all .1 .1 .1 .1 .1 .1 .0),
         decimal-length 5 (c .group .shear) (omega (arith, rs .shear)),
       )
 
@@ -159,10 +182,9 @@ module _ (c : Record) (all : AllPassed (checks c)) where
   unfolding writing
   line-put out room = all-passed (λ n. (Refused n, out)) _ (writerChecks (length out) c) (le-leb 128 (length out) room, all)
 
-  -- and has 51 bytes at least
-  pub line-long : 51 ≤ length (lineOf c)
-  unfolding text
-  line-long =
+  -- and has 50 bytes at least besides the ring's
+  line-least : 50 + length (ringText (c .group .ring)) ≤ length (lineOf c)
+  line-least =
       let rs = ranges c (all .0) in
       omega (
         arith,
@@ -178,20 +200,26 @@ module _ (c : Record) (all : AllPassed (checks c)) where
         decimal-some (c .wall .imperfection),
         decimal-some (c .wall .shortfall),
         decimal-some (c .group .axial),
-        decimal-some (c .group .ring),
         decimal-some (c .group .shear),
       )
+
+  -- so 51 bytes at least, and with wind 60
+  pub line-long : 51 ≤ length (lineOf c)
+  line-long = omega (arith, line-least, ring-some (c .group .ring))
+
+  pub wind-long : (w v : ℕ) → c .group .ring ≡ Wind w v → 60 ≤ length (lineOf c)
+  wind-long w v e = omega (arith, line-least, wind-length w v, decimal-some w, decimal-some v, ap (λ (r : Ring). length (ringText r)) e)
 
   -- it is one line
   pub line-one : lines (lineOf c) ≡ text c ∷ []
   unfolding lines
   line-one = subst (λ (l : List ℕ). lines l ≡ text c ∷ []) (append-nil (lineOf c)) (lines-ended (text c) [] (text-plain c))
 
--- SCOPE 21.5: an answer that is laid down so has the number of a refusal, 12 at most, or of bytes put, 51 at least
-pub written-apart : (c : Record) (out out′ : List ℕ) (w : Written) → Writes c out out′ w → ((n : ℕ) → w ≡ Refused n → writtenNumber w ≤ 12) × ((n : ℕ) → w ≡ Put n → 51 ≤ writtenNumber w)
+-- SCOPE 21.5: an answer that is laid down so has the number of a refusal, 13 at most, or of bytes put, 51 at least
+pub written-apart : (c : Record) (out out′ : List ℕ) (w : Written) → Writes c out out′ w → ((n : ℕ) → w ≡ Refused n → writtenNumber w ≤ 13) × ((n : ℕ) → w ≡ Put n → 51 ≤ writtenNumber w)
 written-apart c out out′ _ (refuses m f e) = (λ n q. below m f, λ n q. absurd (let z : _≡_ {A = ℕ} 0 1 = cc in omega arith))
   where
-    below : (m : ℕ) → FirstBroken (writerChecks (length out) c) m → m ≤ 12
+    below : (m : ℕ) → FirstBroken (writerChecks (length out) c) m → m ≤ 13
     below m (inl (f, is)) = omega (arith, is)
     below m (inr (t, f)) = omega (arith, refusal-range c m (refused m f) .1)
 written-apart c out out′ _ (puts (t, all) e) = (λ n q. absurd (let z : _≡_ {A = ℕ} 0 1 = cc in omega arith), λ n q. omega (arith, line-long c all))

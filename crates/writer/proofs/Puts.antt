@@ -9,9 +9,9 @@ use Rattle.text.proofs.Laws.{Wrote}
 use Rattle.record.specs.declared.Wall.{Wall}
 use Rattle.record.specs.declared.Group.{Group}
 use Rattle.record.specs.declared.Record.{Record}
-use Rattle.reading.specs.Text.{wallText, groupText, text}
+use Rattle.reading.specs.Text.{wallText, ringText, groupText, text}
 use Rattle.writer.specs.Writing.{lineOf}
-use Rattle.writer.specs.Writer.{sizeText}
+use Rattle.writer.specs.Writer.{sizeText, windText}
 
 pub wrote-as : (out : List ℕ) (at : ℕ) (xs ys : List ℕ) (r : ℕ) (out′ : List ℕ) → xs ≡ ys → Wrote out at xs r out′ → Wrote out at ys r out′
 wrote-as out at xs ys r out′ e w = subst (λ (l : List ℕ). Wrote out at l r out′) e w
@@ -24,7 +24,10 @@ pub wall-length : (w : Wall) → length (wallText w)
     + length (decimal (w .edges)) + length (decimal (w .imperfection)) + length (decimal (w .shortfall))
 wall-length w = simp length-append (omega arith)
 
-pub group-length : (g : Group) → length (groupText g) ≡ 11 + length (decimal (g .axial)) + length (decimal (g .ring)) + length (decimal (g .shear))
+pub wind-length : (w v : ℕ) → length (windText w v) ≡ 8 + length (decimal w) + length (decimal v)
+wind-length w v = simp length-append (omega arith)
+
+pub group-length : (g : Group) → length (groupText g) ≡ 11 + length (decimal (g .axial)) + length (ringText (g .ring)) + length (decimal (g .shear))
 group-length g = simp length-append (omega arith)
 
 pub line-length : (c : Record) → length (lineOf c) ≡ 10 + length (wallText (c .wall)) + length (groupText (c .group))
@@ -37,10 +40,13 @@ pub wall-joined : (w : Wall)
     → sizeText w ++ spaced (w .modulus) ++ spaced (w .«yield_stress») ++ spaced (w .edges) ++ spaced (w .imperfection) ++ spaced (w .shortfall) ≡ wallText w
 wall-joined w = simp append-assoc
 
-pub group-joined : (g : Group) → ascii "(stress " ++ decimal (g .axial) ++ spaced (g .ring) ++ spaced (g .shear) ++ ascii ")" ≡ groupText g
-group-joined g = parts (ascii "(stress ") (decimal (g .axial)) (ascii " ") (decimal (g .ring)) (decimal (g .shear)) (ascii ")")
+pub wind-joined : (w v : ℕ) → ascii "(wind " ++ decimal w ++ spaced v ++ ascii ")" ≡ windText w v
+wind-joined w v = simp append-assoc
+
+pub group-joined : (g : Group) → ascii "(stress " ++ decimal (g .axial) ++ ascii " " ++ ringText (g .ring) ++ spaced (g .shear) ++ ascii ")" ≡ groupText g
+group-joined g = parts (ascii "(stress ") (decimal (g .axial)) (ascii " ") (ringText (g .ring)) (decimal (g .shear)) (ascii ")")
   where
-    parts : (p a b r s q : List ℕ) → p ++ a ++ (b ++ r) ++ (b ++ s) ++ q ≡ p ++ a ++ b ++ r ++ b ++ s ++ q
+    parts : (p a b r s q : List ℕ) → p ++ a ++ b ++ r ++ (b ++ s) ++ q ≡ p ++ a ++ b ++ r ++ b ++ s ++ q
     parts p a b r s q = simp append-assoc
 
 pub line-joined : (c : Record) → ascii "(shell " ++ wallText (c .wall) ++ ascii " " ++ groupText (c .group) ++ ascii ")\n" ≡ lineOf c

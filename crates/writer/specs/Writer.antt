@@ -5,7 +5,9 @@ use lib.ListN.{length}
 use Rattle.text.specs.Bytes.{ascii, decimal, spaced}
 use Rattle.answer.specs.Answering.{firstOr}
 use Rattle.record.specs.declared.Wall.{Wall}
+use Rattle.record.specs.declared.Ring.the-variants.{Wind}
 use Rattle.record.specs.declared.Record.{Record}
+use Rattle.reading.specs.Text.{ringText}
 use Rattle.writer.specs.declared.Written.{Written}
 use Rattle.writer.specs.declared.Written.the-variants.{Put, Refused}
 use Rattle.writer.specs.Writing.{writerChecks, lineOf, startingWith}
@@ -13,6 +15,10 @@ use Rattle.writer.specs.Writing.{writerChecks, lineOf, startingWith}
 -- r t l
 abbrev pub sizeText : Wall → List ℕ
 sizeText w = decimal (w .radius) ++ spaced (w .thickness) ++ spaced (w .length)
+
+-- (wind w v)
+abbrev pub windText : ℕ → ℕ → List ℕ
+windText w v = ringText (Wind w v)
 
 -- the answer, and the buffer at exit
 unfoldable pub writing : Record → List ℕ → Written × List ℕ

@@ -38,6 +38,10 @@ abbrev pub writtenNumber : Written → ℕ
 writtenNumber (Put n) = n
 writtenNumber (Refused n) = n
 
+-- an answer and a buffer, with the answer's number
+abbrev pub numbered : Written × List ℕ → ℕ × List ℕ
+numbered p = (writtenNumber (p .0), p .1)
+
 -- n is the number of an answer as it is laid down
 pub record NumberOfWriting (c : Record) (out out′ : List ℕ) (n : ℕ) : Type 0 where
   pub answer : Written

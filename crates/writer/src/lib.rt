@@ -1,6 +1,7 @@
 // Writes the line of a record (SCOPE 21).
 use record::Group;
 use record::Record;
+use record::Ring;
 use record::Wall;
 use text::put_bytes;
 use text::put_number;
@@ -10,10 +11,9 @@ ghost use mathlib.Core.List.{List};
 ghost use Prim.Native.Nat.{ℕ, _+_, _≤_};
 ghost use lib.ListN.{length};
 ghost use Rattle.text.specs.Slices.{put};
-ghost use Rattle.record.specs.Limits.{recordOf};
-ghost use Rattle.reading.specs.Text.{wallText, groupText};
+ghost use Rattle.reading.specs.Text.{wallText, ringText, groupText};
 ghost use Rattle.writer.specs.Writing.{lineOf, Writes, writtenNumber};
-ghost use Rattle.writer.specs.Writer.{sizeText, writing};
+ghost use Rattle.writer.specs.Writer.{sizeText, windText, writing};
 ghost use Rattle.writer.specs.declared.Written.{Written};
 
 // What a writer answers: so many bytes put, or the number of the check that refused.
@@ -50,15 +50,41 @@ fn put_wall(out: &mut [u8], at: usize, w: Wall) -> usize
     put_spaced(out, at, w.shortfall)
 }
 
-// (stress σx σφ τ)
+// (wind w v)
+fn put_wind(out: &mut [u8], at: usize, gust: u64, vented: u64) -> usize
+    requires { ⌜ at + length (windText gust vented) ≤ length (now out) ⌝ }
+    ensures { λ r. ⌜ r ≡ at + length (windText gust vented) ⌝ }
+    ensures { λ _. ⌜ now (out .exit) ≡ put (now (out .entry)) at (windText gust vented) ⌝ }
+{
+    let at = put_bytes(out, at, b"(wind ");
+    let at = put_number(out, at, gust);
+    let at = put_spaced(out, at, vented);
+    put_bytes(out, at, b")")
+}
+
+// σφ, or (wind w v)
+fn put_ring(out: &mut [u8], at: usize, ring: Ring) -> usize
+    requires { ⌜ at + length (ringText ring) ≤ length (now out) ⌝ }
+    ensures { λ r. ⌜ r ≡ at + length (ringText ring) ⌝ }
+    ensures { λ _. ⌜ now (out .exit) ≡ put (now (out .entry)) at (ringText ring) ⌝ }
+{
+    match ring {
+        Ring::Stress(stress) => put_number(out, at, stress),
+        Ring::Wind(gust, vented) => put_wind(out, at, gust, vented),
+    }
+}
+
+// (stress σx σφ τ), or wind in the place of σφ
 fn put_group(out: &mut [u8], at: usize, g: Group) -> usize
     requires { ⌜ at + length (groupText g) ≤ length (now out) ⌝ }
     ensures { λ r. ⌜ r ≡ at + length (groupText g) ⌝ }
     ensures { λ _. ⌜ now (out .exit) ≡ put (now (out .entry)) at (groupText g) ⌝ }
 {
+    let ring = g.ring;
     let at = put_bytes(out, at, b"(stress ");
     let at = put_number(out, at, g.axial);
-    let at = put_spaced(out, at, g.ring);
+    let at = put_bytes(out, at, b" ");
+    let at = put_ring(out, at, ring);
     let at = put_spaced(out, at, g.shear);
     put_bytes(out, at, b")")
 }
@@ -78,36 +104,11 @@ fn put_line(out: &mut [u8], c: Record) -> usize
     put_bytes(out, at, b")\n")
 }
 
-// Puts the line of the record of eleven numbers, in the order of `Record::judge`, at the start of `out`.
-pub fn write(
-    out: &mut [u8],
-    radius: u64,
-    thickness: u64,
-    length: u64,
-    modulus: u64,
-    yield_stress: u64,
-    edges: u64,
-    imperfection: u64,
-    axial: u64,
-    ring: u64,
-    shear: u64,
-    shortfall: u64,
-) -> Written
-    ensures { λ r. ⌜ Writes (recordOf radius thickness length modulus «yield_stress» edges imperfection axial ring shear shortfall) (now (out .entry)) (now (out .exit)) r ⌝ }
-    ensures { λ r. ⌜ _≡_ {A = Written × List ℕ} (r, now (out .exit)) (writing (recordOf radius thickness length modulus «yield_stress» edges imperfection axial ring shear shortfall) (now (out .entry))) ⌝ }
+// Puts the line of a record at the start of `out`.
+pub fn write(out: &mut [u8], c: Record) -> Written
+    ensures { λ r. ⌜ Writes c (now (out .entry)) (now (out .exit)) r ⌝ }
+    ensures { λ r. ⌜ _≡_ {A = Written × List ℕ} (r, now (out .exit)) (writing c (now (out .entry))) ⌝ }
 {
-    let wall = Wall {
-        radius,
-        thickness,
-        length,
-        modulus,
-        yield_stress,
-        edges,
-        imperfection,
-        shortfall,
-    };
-    let group = Group { axial, ring, shear };
-    let c = Record { wall, group };
     if out.len() < ROOM_LEAST {
         return Written::Refused(12);
     }

@@ -2,6 +2,7 @@
 use mathlib.Core.Path.{ap, _∙_}
 use borrow.Author.Needs.{needs}
 use Rattle.answer.specs.Answers.{answerNumber}
+use Rattle.record.specs.declared.Ring.the-variants.{Stress}
 use Rattle.record.specs.Limits.{recordOf}
 use Rattle.record.proofs.Right.{right-bounded}
 use Rattle.capi.proofs.shell_judge.Statement.{statement}
@@ -13,7 +14,7 @@ judge-requires c κs = search needs
 number-requires : tie.Need-number-requires
 number-requires c κs =
     let x = c .before .args in
-    right-bounded (recordOf (x .r) (x .t) (x .l) (x .e) (x .fy) (x .edges) (x .a) (x .sx) (x .sphi) (x .tau) (x .d)) _ (c .judge .ensures .1)
+    right-bounded (recordOf (x .r) (x .t) (x .l) (x .e) (x .fy) (x .edges) (x .a) (x .sx) (Stress (x .sphi)) (x .tau) (x .d)) _ (c .judge .ensures .1)
 
 returns : tie.Need-returns
 returns c =

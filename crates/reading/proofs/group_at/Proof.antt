@@ -1,9 +1,11 @@
+use mathlib.Core.Path.{ap}
 use borrow.Author.Needs.{needs}
 use Rattle.reading.proofs.group_at.Statement.{statement}
 use Rattle.reading.proofs.group_at.Tie as tie
 use Rattle.format.specs.Places.{reads, refuses}
-use Rattle.format.proofs.Places.{fixed-finds, fixed-fails, number-finds, number-fails, finds-changed, finds-sequence, finds-closed, fails-changed, fails-first, fails-second, fails-closed, fails-end}
+use Rattle.format.proofs.Places.{finds, fails, fixed-finds, fixed-fails, number-finds, number-fails, finds-changed, finds-sequence, finds-closed, fails-changed, fails-first, fails-second, fails-closed, fails-end}
 use Rattle.reading.specs.Reading.{group}
+use Rattle.reading.specs.Parts.{ringPart}
 
 slice-aggregate-number-after : tie.Need-slice-aggregate-number-after
 slice-aggregate-number-after c = search needs
@@ -22,8 +24,8 @@ unfolding group
 returns c =
     refuses (fails-changed _ (fails-first _ (number-fails (c .before .before .number-after .ensures) (c .enum-told .given .1))))
 
-spaced-at-requires : tie.Need-spaced-at-requires
-spaced-at-requires c κs = search needs
+ring-at-requires : tie.Need-ring-at-requires
+ring-at-requires c κs = search needs
 
 enum-known-ring : tie.Need-enum-known-ring
 enum-known-ring c = search needs
@@ -35,10 +37,10 @@ returns-2 : tie.Need-returns-2
 unfolding group
 returns-2 c =
     let k1 = c .before .before .before in
-    refuses (fails-changed _ (fails-second (number-finds (k1 .before .before .before .number-after .ensures) (k1 .before .axial .given .1)) (fails-first _ (number-fails (c .before .before .spaced-at .ensures) (c .enum-told2 .given .1)))))
+    refuses (fails-changed _ (fails-second (number-finds (k1 .before .before .before .number-after .ensures) (k1 .before .axial .given .1)) (fails-first _ (fails (c .before .before .ring-at .ensures) (ap ringPart (c .enum-told2 .given .1))))))
 
-spaced-at-requires-2 : tie.Need-spaced-at-requires-2
-spaced-at-requires-2 c κs = search needs
+spaced-at-requires : tie.Need-spaced-at-requires
+spaced-at-requires c κs = search needs
 
 enum-known-shear : tie.Need-enum-known-shear
 enum-known-shear c = search needs
@@ -53,7 +55,7 @@ returns-3 c =
     let k1 = k2 .before .before .before .before in
     refuses (fails-changed _
     (fails-second (number-finds (k1 .before .before .before .number-after .ensures) (k1 .before .axial .given .1))
-    (fails-second (number-finds (k2 .before .before .before .spaced-at .ensures) (k2 .before .ring .given .1)) (fails-closed _ (number-fails (c .before .before .spaced-at2 .ensures) (c .enum-told3 .given .1))))))
+    (fails-second (finds (k2 .before .before .before .ring-at .ensures) (ap ringPart (k2 .before .ring .given .1))) (fails-closed _ (number-fails (c .before .before .spaced-at .ensures) (c .enum-told3 .given .1))))))
 
 slice-aggregate-fixed-at : tie.Need-slice-aggregate-fixed-at
 slice-aggregate-fixed-at c = search needs
@@ -75,7 +77,7 @@ returns-4 c =
     let k1 = k2 .before .before .before .before in
     refuses (fails-changed _
     (fails-second (number-finds (k1 .before .before .before .number-after .ensures) (k1 .before .axial .given .1))
-    (fails-second (number-finds (k2 .before .before .before .spaced-at .ensures) (k2 .before .ring .given .1)) (fails-end _ (number-finds (k3 .before .before .before .spaced-at2 .ensures) (k3 .before .shear .given .1)) (fixed-fails (c .before .before .fixed-at .ensures) (c .enum-told4 .given .1))))))
+    (fails-second (finds (k2 .before .before .before .ring-at .ensures) (ap ringPart (k2 .before .ring .given .1))) (fails-end _ (number-finds (k3 .before .before .before .spaced-at .ensures) (k3 .before .shear .given .1)) (fixed-fails (c .before .before .fixed-at .ensures) (c .enum-told4 .given .1))))))
 
 returns-5 : tie.Need-returns-5
 unfolding group
@@ -85,7 +87,7 @@ returns-5 c =
     let k1 = k2 .before .before .before .before in
     reads (finds-changed _
     (finds-sequence (number-finds (k1 .before .before .before .number-after .ensures) (k1 .before .axial .given .1))
-    (finds-sequence (number-finds (k2 .before .before .before .spaced-at .ensures) (k2 .before .ring .given .1)) (finds-closed _ (number-finds (k3 .before .before .before .spaced-at2 .ensures) (k3 .before .shear .given .1)) (fixed-finds (c .before .before .before .fixed-at .ensures) (c .before .at .given .1))))))
+    (finds-sequence (finds (k2 .before .before .before .ring-at .ensures) (ap ringPart (k2 .before .ring .given .1))) (finds-closed _ (number-finds (k3 .before .before .before .spaced-at .ensures) (k3 .before .shear .given .1)) (fixed-finds (c .before .before .before .fixed-at .ensures) (c .before .at .given .1))))))
 
 pub group-at-spec : {M : Type 1} → statement M
 group-at-spec =
@@ -96,11 +98,11 @@ group-at-spec =
     enum-known-axial
     enum-told
     returns
-    spaced-at-requires
+    ring-at-requires
     enum-known-ring
     enum-told-2
     returns-2
-    spaced-at-requires-2
+    spaced-at-requires
     enum-known-shear
     enum-told-3
     returns-3

@@ -2,13 +2,12 @@
 use borrow.Author.Needs.{needs}
 use Rattle.writer.proofs.write.Statement.{statement}
 use Rattle.writer.proofs.write.Tie as tie
-use Rattle.record.specs.Limits.{recordOf}
 use Rattle.writer.proofs.Laws.{laid, writing-small, writing-refused, writing-fits, writing-put}
 
 returns : tie.Need-returns
 returns c =
     let x = c .before .before .args in
-    laid (recordOf (x .radius) (x .thickness) (x .length) (x .modulus) (x .yield-stress) (x .edges) (x .imperfection) (x .axial) (x .ring) (x .shear) (x .shortfall)) (x .out .now) _ _
+    laid (x .c) (x .out .now) _ _
     (writing-small _ _ (c .if1 .taken))
 
 refusal-requires : tie.Need-refusal-requires
@@ -17,13 +16,13 @@ refusal-requires c κs = search needs
 returns-2 : tie.Need-returns-2
 returns-2 c =
     let x = c .before .before .before .before .args in
-    laid (recordOf (x .radius) (x .thickness) (x .length) (x .modulus) (x .yield-stress) (x .edges) (x .imperfection) (x .axial) (x .ring) (x .shear) (x .shortfall)) (x .out .now) _ _
+    laid (x .c) (x .out .now) _ _
     (writing-refused _ _ (c .before .before .if1 .left) _ (c .before .refusal .ensures) (c .if2 .taken))
 
 put-line-requires : tie.Need-put-line-requires
 put-line-requires c κs =
     let x = c .before .before .before .before .before .args in
-    writing-fits (recordOf (x .radius) (x .thickness) (x .length) (x .modulus) (x .yield-stress) (x .edges) (x .imperfection) (x .axial) (x .ring) (x .shear) (x .shortfall)) (x .out .now) (c .before .before .before .if1 .left) _ (c .before .before .refusal .ensures) (c .before .if2 .left)
+    writing-fits (x .c) (x .out .now) (c .before .before .before .if1 .left) _ (c .before .before .refusal .ensures) (c .before .if2 .left)
 
 same-length : tie.Need-same-length
 same-length c = search needs
@@ -32,7 +31,7 @@ returns-3 : tie.Need-returns-3
 returns-3 c =
     let s = c .before .before in
     let x = s .before .before .before .before .before .before .args in
-    laid (recordOf (x .radius) (x .thickness) (x .length) (x .modulus) (x .yield-stress) (x .edges) (x .imperfection) (x .axial) (x .ring) (x .shear) (x .shortfall)) (x .out .now) _ _
+    laid (x .c) (x .out .now) _ _
     (writing-put _ _ (s .before .before .before .before .if1 .left) _ (s .before .before .before .refusal .ensures) (s .before .before .if2 .left) _ _ (s .put-line .ensures .0) (s .put-line .ensures .1))
 
 pub write-spec : {M : Type 1} → statement M

@@ -5,10 +5,10 @@ use Rattle.shellsheet.proofs.scan.scan.Statement.{statement}
 use Rattle.shellsheet.proofs.scan.scan.Tie as tie
 
 abbrev Inv-loop : tie.InvT-loop
-Inv-loop line form at₀ i₀ at i = Unit {0}
+Inv-loop line from form at₀ i₀ at i = Unit {0}
 
 abbrev μ-loop : tie.MeasureT-loop
-μ-loop line form at₀ i₀ at i = length form - i
+μ-loop line from form at₀ i₀ at i = length form - i
 
 loop-holds : tie.Need-loop-holds Inv-loop μ-loop
 loop-holds c = search needs
