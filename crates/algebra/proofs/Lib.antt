@@ -6,4 +6,5 @@ pub mod Nonlinear
 pub mod Polynomial
 pub mod Powers
 pub mod Ring
+pub mod Tables
 pub mod Tests

@@ -2,17 +2,21 @@
 // each term from below by one rule, and L and U from the terms.
 ghost use mathlib.Core.Path.{_≡_};
 ghost use lib.Dec.{leb};
-ghost use Prim.Native.Nat.{_*_, _/_, _≤_, _<_, min};
+ghost use Prim.Native.Nat.{_+_, _*_, _/_, _≤_, _<_, min};
 ghost use Rattle.wide.specs.Value.{base};
+ghost use Rattle.guess.specs.Roots.{RootTable};
+ghost use Rattle.cylinder.specs.declared.Stress.the-variants.{Axial, Ring, Shear};
 ghost use Rattle.cylinder.specs.InLimits.{InLimits};
 ghost use Rattle.cylinder.specs.WholeStress.{excess as excessOf};
 ghost use Rattle.cylinder.specs.Search.{grid, place as placeOf, sumBounds};
 ghost use Rattle.lengths.specs.Short.{shortOf};
 ghost use Rattle.ideal.specs.Decision.{cutOf};
+ghost use Rattle.bounds.specs.Ready.{Ready};
 ghost use Rattle.bounds.specs.Sides.{Sides};
 ghost use Rattle.bounds.specs.Stresses.{part1Of, part2Of, partFor, partOf, Reads, SmallParts, Small, lowOf, pairOf, fractionOf};
 use cylinder::Cylinder;
 use cylinder::Stress;
+use slenderness_terms::Terms;
 use term::Branches;
 use term::Part;
 
@@ -34,19 +38,61 @@ struct Placed {
     at: u64,
 }
 
-// The place of S: on a grid of 1/200,000,000 where S is below 2, and of 1/8,000,000 from 2 up.
-fn place(kind: Stress, short: bool, s: Cylinder) -> Placed
-    requires { ⌜ (InLimits s) × (short ≡ shortOf kind s) ⌝ }
-    ensures { λ r. ⌜ (r .grid ≡ grid (cutOf kind short s)) × (r .at ≡ placeOf (cutOf kind short s) (grid (cutOf kind short s))) × (r .at < base) × (r .grid ≤ 200000000) ⌝ }
+// What is known of S before it is looked for: the length test, the terms of its comparisons, and a guess.
+struct Prepared {
+    short: bool,
+    terms: Terms,
+    near: u64,
+}
+
+// That of a stress above 0.
+fn prepare(roots: &[u8; 1024], kind: Stress, s: Cylinder) -> Prepared
+    requires { ⌜ (InLimits s) × RootTable (now roots) ⌝ }
+    ensures { λ r. ⌜ Ready kind s r ⌝ }
 {
-    let k = slenderness_grid::highest(kind, short, s, 200000000, 400000000);
+    let short = lengths::is_short(kind, s);
+    let terms = slenderness_terms::terms_for(kind, short, s);
+    let near = slenderness_grid::guess_for(roots, kind, short, s, terms);
+    Prepared { short, terms, near }
+}
+
+// Nothing is prepared for a stress of 0.
+fn prepare_for(roots: &[u8; 1024], kind: Stress, s: Cylinder, load: Load) -> Prepared
+    requires { ⌜ (InLimits s) × RootTable (now roots) ⌝ }
+    ensures { λ r. ⌜ (0 < load .num → Ready kind s r) ⌝ }
+{
+    if 0 < load.num {
+        return prepare(roots, kind, s);
+    }
+    let none = interval::of(0);
+    let terms = Terms {
+        c: none,
+        d: none,
+        e: none,
+    };
+    Prepared {
+        short: false,
+        terms,
+        near: 0,
+    }
+}
+
+// The place of S: on a grid of 1/200,000,000 where S is below 2, and of 1/8,000,000 from 2 up.
+fn place(roots: &[u8; 1024], kind: Stress, s: Cylinder, p: Prepared) -> Placed
+    requires { ⌜ (InLimits s) × (Ready kind s p) × RootTable (now roots) ⌝ }
+    ensures { λ r. ⌜ (r .grid ≡ grid (cutOf kind (p .short) s)) × (r .at ≡ placeOf (cutOf kind (p .short) s) (grid (cutOf kind (p .short) s))) × (r .at < base) × (r .grid ≤ 200000000) ⌝ }
+{
+    let short = p.short;
+    let t = p.terms;
+    let near = p.near;
+    let k = slenderness_grid::highest(roots, kind, short, s, t, 200000000, 400000000, near);
     if k < 400000000 {
         return Placed {
             grid: 200000000,
             at: k,
         };
     }
-    let far = slenderness_grid::highest(kind, short, s, 8000000, 4294967295);
+    let far = slenderness_grid::highest(roots, kind, short, s, t, 8000000, 4294967295, near / 25);
     Placed {
         grid: 8000000,
         at: far,
@@ -170,26 +216,36 @@ fn excess(s: Cylinder) -> u64
 }
 
 // The term of a stress above 0 from below, in millionths, up to 2,000,000.
-fn lowest(kind: Stress, s: Cylinder, num: u64, den: u64) -> u64
-    requires { ⌜ (InLimits s) × (SmallParts num den) ⌝ }
+fn lowest(roots: &[u8; 1024], kind: Stress, s: Cylinder, num: u64, den: u64, p: Prepared) -> u64
+    requires { ⌜ (InLimits s) × (SmallParts num den) × (Ready kind s p) × RootTable (now roots) ⌝ }
     ensures { λ r. ⌜ r ≡ lowOf kind s num den ⌝ }
 {
-    let short = lengths::is_short(kind, s);
-    let p = place(kind, short, s);
+    let short = p.short;
+    let p = place(roots, kind, s, p);
     let l = branches(kind, short, s, p);
     let b = branches_for(kind, l);
-    term::low(kind, b, s.yield_stress, num, den, excess(s), p.at, p.grid)
+    term::low(
+        roots,
+        kind,
+        b,
+        s.yield_stress,
+        num,
+        den,
+        excess(s),
+        p.at,
+        p.grid,
+    )
 }
 
 // The term of a stress in millionths: 0 for a stress of 0, else less than 2 over its low bound.
-fn term_bounds(kind: Stress, s: Cylinder, load: Load) -> Bounds
-    requires { ⌜ (InLimits s) × Small load ⌝ }
+fn term_bounds(roots: &[u8; 1024], kind: Stress, s: Cylinder, load: Load, p: Prepared) -> Bounds
+    requires { ⌜ (InLimits s) × (Small load) × (0 < load .num → Ready kind s p) × RootTable (now roots) ⌝ }
     ensures { λ r. ⌜ (r .low ≡ pairOf kind s load .low) × (r .high ≡ pairOf kind s load .high) × (r .low ≤ 2000000) × (r .high ≤ 2000002) ⌝ }
 {
     if load.num == 0 {
         return Bounds { low: 0, high: 0 };
     }
-    let low = lowest(kind, s, load.num, load.den);
+    let low = lowest(roots, kind, s, load.num, load.den, p);
     Bounds { low, high: low + 2 }
 }
 
@@ -200,16 +256,33 @@ fn capped(x: u64) -> u64
     if x < 20000 { x } else { 20000 }
 }
 
+// The three terms together, in millionths.
+fn in_millionths(roots: &[u8; 1024], s: Cylinder, axial: Load, ring: Load, shear: Load) -> Bounds
+    requires { ⌜ (InLimits s) × (Small axial) × (Small ring) × (Small shear) × RootTable (now roots) ⌝ }
+    ensures { λ r. ⌜ (r .low ≡ pairOf Axial s axial .low + pairOf Ring s ring .low + pairOf Shear s shear .low) × (r .high ≡ pairOf Axial s axial .high + pairOf Ring s ring .high + pairOf Shear s shear .high) × (r .low ≤ 6000000) × (r .high ≤ 6000006) ⌝ }
+{
+    // all guesses first: none waits for another
+    let x = prepare_for(roots, Stress::Axial, s, axial);
+    let y = prepare_for(roots, Stress::Ring, s, ring);
+    let z = prepare_for(roots, Stress::Shear, s, shear);
+    let a = term_bounds(roots, Stress::Axial, s, axial, x);
+    let r = term_bounds(roots, Stress::Ring, s, ring, y);
+    let h = term_bounds(roots, Stress::Shear, s, shear, z);
+    Bounds {
+        low: a.low + r.low + h.low,
+        high: a.high + r.high + h.high,
+    }
+}
+
 // L and U of a cylinder under three stresses, with some millionths more on the high side.
 pub fn of_sum(s: Cylinder, axial: Load, ring: Load, shear: Load, more: u64) -> Bounds
     requires { ⌜ (InLimits s) × (Small axial) × (Small ring) × (Small shear) × (more ≤ 95) ⌝ }
     ensures { λ r. ⌜ (r .low ≡ sumBounds more s (fractionOf axial) (fractionOf ring) (fractionOf shear) .low) × (r .high ≡ sumBounds more s (fractionOf axial) (fractionOf ring) (fractionOf shear) .high) ⌝ }
 {
-    let a = term_bounds(Stress::Axial, s, axial);
-    let r = term_bounds(Stress::Ring, s, ring);
-    let h = term_bounds(Stress::Shear, s, shear);
+    let roots = guess::root_table();
+    let t = in_millionths(&roots, s, axial, ring, shear);
     Bounds {
-        low: capped((a.low + r.low + h.low) / 100),
-        high: capped((a.high + r.high + h.high + more + 99) / 100),
+        low: capped(t.low / 100),
+        high: capped((t.high + more + 99) / 100),
     }
 }

@@ -1,2 +1,3 @@
--- Nobody has to believe it: a guess only says where a search begins.
+-- To be believed: Roots. How a guess is made, nobody has to believe: it only says where a search begins.
 pub mod Guess
+pub mod Roots

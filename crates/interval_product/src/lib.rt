@@ -26,22 +26,22 @@ fn joined(fresh: bool, n: Interval, w: u64) -> Interval
     }
 }
 
-// Bounds of the product of the factors of f. Factors are put together as long as they fit.
-pub fn bounds_of(f: &[u64]) -> Interval
-    ensures { λ r. ⌜ Around r (prod (now (f .entry))) ⌝ }
+// Bounds of x times the product of the factors of f. Factors are put together as long as they fit.
+pub fn bounds_of(x: u64, f: &[u64]) -> Interval
+    ensures { λ r. ⌜ Around r (x * prod (now (f .entry))) ⌝ }
 {
     let mut n = interval::of(1);
     let mut fresh = true;
-    let mut w = 1;
+    let mut w = x;
     let mut i = 0;
     while i < f.len() {
-        let x = f[i];
-        if fits_together(w, x) {
-            w = w * x;
+        let y = f[i];
+        if fits_together(w, y) {
+            w = w * y;
         } else {
             n = joined(fresh, n, w);
             fresh = false;
-            w = x;
+            w = y;
         }
         i += 1;
     }

@@ -1,2 +1,3 @@
 pub mod Laws
 pub mod Demand3
+pub mod Newlines

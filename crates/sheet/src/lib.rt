@@ -1,7 +1,7 @@
 // The sheet run: an answer for each line of a sheet, and the listing of the answers.
 use answer::Answer;
 use entry::put_entry;
-use lines::after_line;
+use lines::after_first;
 use lines::first_line;
 use listing::Counts;
 use outcome::Outcome;
@@ -75,10 +75,12 @@ fn put_listing(sheet: &[u8], out: &mut [u8]) -> Outcome
     let mut at: usize = 0;
     let mut counts = Counts::none();
     while 0 < rest.len() {
-        let a = answer(first_line(rest));
+        let line = first_line(rest);
+        let e = line.len();
+        let a = answer(line);
         counts = counts.with(a);
         at = put_entry(out, at, counts.lines, a);
-        let next = after_line(rest);
+        let next = after_first(rest, e);
         rest = next;
     }
     let length = put_total(out, at, counts);

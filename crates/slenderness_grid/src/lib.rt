@@ -2,7 +2,7 @@
 // exact comparisons.
 ghost use mathlib.Core.Path.{_≡_};
 ghost use mathlib.Core.Bool.{true};
-ghost use Prim.Native.Nat.{ℕ, _*_, _^_, _≤_, _<_};
+ghost use Prim.Native.Nat.{ℕ, _+_, _-_, _*_, _^_, _≤_, _<_};
 ghost use Rattle.wide.specs.Value.{base};
 ghost use Rattle.interval.specs.Around.{Around};
 ghost use Rattle.cylinder.specs.InLimits.{InLimits};
@@ -10,18 +10,50 @@ ghost use Rattle.cylinder.specs.WholeIdeal.{axialShortCut, axialBent, axialFloo
 ghost use Rattle.cylinder.specs.Cut.{rootOf};
 ghost use Rattle.ideal.specs.Decision.{cutOf};
 ghost use Rattle.slenderness_grid.specs.Highest.{Highest, curvedOf};
+ghost use Rattle.guess.specs.Roots.{RootTable};
+ghost use Rattle.guess.specs.declared.Degree.the-variants.{Two, Four};
+ghost use Rattle.roots.specs.Degree.{degree};
+ghost use Rattle.roots.specs.Largest.{largest};
+ghost use Rattle.slenderness_terms.specs.TermsFor.{TwoTerms, ThreeTerms, axialShortX, axialShortY, bentC, bentD, bentE, ringShortX, ringShortY, ringLongX, ringLongY, shearC, shearD, shearE, shearLongX, shearLongY, TermsFor};
 ghost use Rattle.slenderness_grid.specs.TermsOf.{Sheared, Bent, TermsOf};
+ghost use Rattle.slenderness_grid.specs.Guessed.{liftedOf, RoughRoot, PlainGuess, CurvedGuess, GuessFor};
 use cylinder::Cylinder;
 use cylinder::Stress;
 use guess::Degree;
 use interval::Interval;
 use interval::Side;
+use interval_root::Found;
+use interval_root::guess_of;
+use slenderness_terms::Terms;
+
+// The finer of the two grids: its points are 1/200,000,000 apart.
+const FINER: u64 = 200000000;
+
+// What bounds settle of S where it is a root: the largest k up to the cap such that k² c or k⁴ c is at most q² d or q⁴ d.
+fn settled(t: Terms, q: u64, d: Degree, cap: u64, near: u64) -> Found
+    requires { ⌜ (cap < base) × (q < base) ⌝ }
+    ensures { λ r. ⌜ (r .known ≡ true → (x y : ℕ) → TwoTerms x y t → r .at ≡ largest (degree d) cap x (q ^ degree d * y)) ⌝ }
+{
+    let y = interval_root::raised(t.d, d, q);
+    interval_root::settled(t.c, y, d, cap, near)
+}
 
 // Axial stress, short: the largest k up to the cap such that S reaches k/q.
-fn axial_short_highest(s: Cylinder, q: u64, cap: u64) -> u64
-    requires { ⌜ cap < base ⌝ }
+fn axial_short_highest(
+    roots: &[u8; 1024],
+    s: Cylinder,
+    t: Terms,
+    q: u64,
+    cap: u64,
+    near: u64,
+) -> u64
+    requires { ⌜ (cap < base) × (q < base) × (TwoTerms (axialShortX s) (axialShortY s) t) × RootTable (now roots) ⌝ }
     ensures { λ r. ⌜ Highest (axialShortCut s) q cap r ⌝ }
 {
+    let found = settled(t, q, Degree::Two, cap, near);
+    if found.known {
+        return found.at;
+    }
     let e = s.modulus;
     let w = s.wall;
     let r = s.radius;
@@ -29,24 +61,28 @@ fn axial_short_highest(s: Cylinder, q: u64, cap: u64) -> u64
     let f = [48400, e, w, l, l];
     let g = [363, e, w, w, r];
     let h = [16000000, r, l, l, s.yield_stress, q, q];
-    root_search::root_of_sum(&f, &g, &h, Degree::Two, cap)
+    root_search::exact_sum(roots, &f, &g, &h, Degree::Two, cap)
 }
 
 // Axial stress, long, where Cx is at its least.
-fn axial_floor_highest(s: Cylinder, q: u64, cap: u64) -> u64
-    requires { ⌜ cap < base ⌝ }
+fn axial_floor_highest(roots: &[u8; 1024], s: Cylinder, q: u64, cap: u64) -> u64
+    requires { ⌜ (cap < base) × RootTable (now roots) ⌝ }
     ensures { λ r. ⌜ Highest (rootOf 2 (axialFloor s)) q cap r ⌝ }
 {
     let f = [726, s.modulus, s.wall];
     let h = [400000, s.radius, s.yield_stress, q, q];
-    root_search::root(&f, &h, Degree::Two, cap)
+    root_search::root(roots, &f, &h, Degree::Two, cap)
 }
 
 // Ring stress, short.
-fn ring_short_highest(s: Cylinder, q: u64, cap: u64) -> u64
-    requires { ⌜ cap < base ⌝ }
+fn ring_short_highest(roots: &[u8; 1024], s: Cylinder, t: Terms, q: u64, cap: u64, near: u64) -> u64
+    requires { ⌜ (cap < base) × (q < base) × (TwoTerms (ringShortX s) (ringShortY s) t) × RootTable (now roots) ⌝ }
     ensures { λ r. ⌜ Highest (ringShortCut s) q cap r ⌝ }
 {
+    let found = settled(t, q, Degree::Four, cap, near);
+    if found.known {
+        return found.at;
+    }
     let c = lengths::ring_edges(s.edges);
     let e = s.modulus;
     let w = s.wall;
@@ -54,14 +90,18 @@ fn ring_short_highest(s: Cylinder, q: u64, cap: u64) -> u64
     let v = s.yield_stress;
     let f = [529, c, c, e, e, w, w, w];
     let h = [80000000000, s.radius, l, l, v, v, q, q, q, q];
-    root_search::root(&f, &h, Degree::Four, cap)
+    root_search::exact(roots, &f, &h, Degree::Four, cap)
 }
 
 // Ring stress, long.
-fn ring_long_highest(s: Cylinder, q: u64, cap: u64) -> u64
-    requires { ⌜ cap < base ⌝ }
+fn ring_long_highest(roots: &[u8; 1024], s: Cylinder, t: Terms, q: u64, cap: u64, near: u64) -> u64
+    requires { ⌜ (cap < base) × (q < base) × (TwoTerms (ringLongX s) (ringLongY s) t) × RootTable (now roots) ⌝ }
     ensures { λ r. ⌜ Highest (ringLongCut s) q cap r ⌝ }
 {
+    let found = settled(t, q, Degree::Two, cap, near);
+    if found.known {
+        return found.at;
+    }
     let c = lengths::ring_edges(s.edges);
     let e = s.modulus;
     let r = s.radius;
@@ -69,64 +109,25 @@ fn ring_long_highest(s: Cylinder, q: u64, cap: u64) -> u64
     let f = [44, e, s.wall, s.wall, l, l, l, l];
     let g = [50750, e, c, c, c, c, r, r, r, r, r, r];
     let h = [6400000, r, r, l, l, l, l, s.yield_stress, q, q];
-    root_search::root_of_sum(&f, &g, &h, Degree::Two, cap)
+    root_search::exact_sum(roots, &f, &g, &h, Degree::Two, cap)
 }
 
 // Shear, long.
-fn shear_long_highest(s: Cylinder, q: u64, cap: u64) -> u64
-    requires { ⌜ cap < base ⌝ }
+fn shear_long_highest(roots: &[u8; 1024], s: Cylinder, t: Terms, q: u64, cap: u64, near: u64) -> u64
+    requires { ⌜ (cap < base) × (q < base) × (TwoTerms (shearLongX s) (shearLongY s) t) × RootTable (now roots) ⌝ }
     ensures { λ r. ⌜ Highest (shearLongCut s) q cap r ⌝ }
 {
+    let found = settled(t, q, Degree::Four, cap, near);
+    if found.known {
+        return found.at;
+    }
     let e = s.modulus;
     let w = s.wall;
     let r = s.radius;
     let v = s.yield_stress;
     let f = [3, e, e, w, w, w];
     let h = [128000000, r, r, r, v, v, q, q, q, q];
-    root_search::root(&f, &h, Degree::Four, cap)
-}
-
-// Bounds of what the two branches whose ideal stress is a sum with a root compare: c, d, and e without its √(w/(200 r)).
-struct Terms {
-    c: Interval,
-    d: Interval,
-    e: Interval,
-}
-
-// Shear, short.
-fn shear_terms(s: Cylinder, q: u64) -> Terms
-    ensures { λ r. ⌜ Sheared s q r ⌝ }
-{
-    let e = s.modulus;
-    let w = s.wall;
-    let l = s.length;
-    let v = s.yield_stress;
-    let f = [1134, e, e, w, w, w, w, s.radius];
-    let g = [25600000000, s.radius, l, l, l, l, v, v, q, q, q, q];
-    let h = [1080000, e, e, w, w, l, l, l];
-    Terms {
-        c: interval_product::bounds_of(&f),
-        d: interval_product::bounds_of(&g),
-        e: interval_product::bounds_of(&h),
-    }
-}
-
-// Axial stress, long, where Cx falls with the length.
-fn bent_terms(s: Cylinder, q: u64) -> Terms
-    ensures { λ r. ⌜ Bent s q r ⌝ }
-{
-    let n = lengths::eta(s.edges);
-    let e = s.modulus;
-    let w = s.wall;
-    let r = s.radius;
-    let f = [121, e, w, r, 10 * n + 2];
-    let g = [400000, n, r, r, s.yield_stress, q, q];
-    let h = [121, e, w, 4, s.length];
-    Terms {
-        c: interval_product::bounds_of(&f),
-        d: interval_product::bounds_of(&g),
-        e: interval_product::bounds_of(&h),
-    }
+    root_search::exact(roots, &f, &h, Degree::Four, cap)
 }
 
 // Bounds of a² x.
@@ -172,7 +173,9 @@ fn bent_reaches(s: Cylinder, p: u64, q: u64, t: Terms) -> bool
 }
 
 // The same number times 2^32, for a guess.
-fn lifted(n: Interval) -> Interval {
+fn lifted(n: Interval) -> Interval
+    ensures { λ r. ⌜ r ≡ liftedOf n ⌝ }
+{
     if 8192 < n.up {
         return n;
     }
@@ -184,42 +187,13 @@ fn lifted(n: Interval) -> Interval {
 }
 
 // A number near √(w/(200 r)) · 2^32.
-fn rough_root(s: Cylinder) -> u64
-    requires { ⌜ InLimits s ⌝ }
+fn rough_root(roots: &[u8; 1024], s: Cylinder) -> u64
+    requires { ⌜ (InLimits s) × RootTable (now roots) ⌝ }
+    ensures { λ r. ⌜ RoughRoot s r ⌝ }
 {
-    let x = interval_root::leading(interval::of(200 * s.radius));
-    let y = interval_root::leading(lifted(lifted(interval::of(s.wall))));
-    guess::guess_from(x, y, Degree::Two)
-}
-
-// A guess at S for shear, short: the fourth root of d q⁴/(c + e √(w/(200 r))).
-fn shear_guess(s: Cylinder, t: Terms) -> u64
-    requires { ⌜ InLimits s ⌝ }
-{
-    let x = interval::plus(
-        lifted(t.c),
-        interval::times(t.e, interval::of(rough_root(s))),
-    );
-    guess::guess_from(
-        interval_root::leading(x),
-        interval_root::leading(lifted(t.d)),
-        Degree::Four,
-    )
-}
-
-// A guess at S for axial stress, long: √(d q²/(c - e √(w/(200 r)))).
-fn bent_guess(s: Cylinder, t: Terms) -> u64
-    requires { ⌜ InLimits s ⌝ }
-{
-    let x = interval::minus(
-        lifted(t.c),
-        interval::times(t.e, interval::of(rough_root(s))),
-    );
-    guess::guess_from(
-        interval_root::leading(x),
-        interval_root::leading(lifted(t.d)),
-        Degree::Two,
-    )
+    let a = interval::of(200 * s.radius);
+    let b = interval::of(s.wall);
+    guess_of(roots, a, lifted(lifted(b)), Degree::Two)
 }
 
 // Whether S reaches p/q, for the two branches.
@@ -258,50 +232,140 @@ fn curved_highest(shear: bool, s: Cylinder, q: u64, cap: u64, near: u64, t: Term
     lo
 }
 
+// The terms at the grid q.
+fn scaled(t: Terms, d: Degree, q: u64) -> Terms
+    requires { ⌜ q < base ⌝ }
+    ensures { λ r. ⌜ ((x y z : ℕ) → ThreeTerms x y z t → ThreeTerms x (q ^ degree d * y) z r) ⌝ }
+{
+    let c = t.c;
+    let e = t.e;
+    let y = interval_root::raised(t.d, d, q);
+    Terms { c, d: y, e }
+}
+
 // Axial stress, long: the smaller of two numbers, so the second is looked for up to the first.
-fn axial_long_highest(s: Cylinder, q: u64, cap: u64) -> u64
-    requires { ⌜ (InLimits s) × (cap < base) × (0 < q) ⌝ }
+fn axial_long_highest(roots: &[u8; 1024], s: Cylinder, t: Terms, q: u64, cap: u64, near: u64) -> u64
+    requires { ⌜ (InLimits s) × (cap < base) × (0 < q) × (q < base) × (ThreeTerms (bentC s) (bentD s) (bentE s) t) × RootTable (now roots) ⌝ }
     ensures { λ r. ⌜ Highest (axialLongCut s) q cap r ⌝ }
 {
-    let k = axial_floor_highest(s, q, cap);
-    let t = bent_terms(s, q);
-    curved_highest(false, s, q, k, bent_guess(s, t), t)
+    let k = axial_floor_highest(roots, s, q, cap);
+    let u = scaled(t, Degree::Two, q);
+    curved_highest(false, s, q, k, near, u)
 }
 
 // Shear, short.
-fn shear_short_highest(s: Cylinder, q: u64, cap: u64) -> u64
-    requires { ⌜ (InLimits s) × (cap < base) ⌝ }
+fn shear_short_highest(
+    roots: &[u8; 1024],
+    s: Cylinder,
+    t: Terms,
+    q: u64,
+    cap: u64,
+    near: u64,
+) -> u64
+    requires { ⌜ (InLimits s) × (cap < base) × (q < base) × (ThreeTerms (shearC s) (shearD s) (shearE s) t) × RootTable (now roots) ⌝ }
     ensures { λ r. ⌜ Highest (shearShortCut s) q cap r ⌝ }
 {
-    let t = shear_terms(s, q);
-    curved_highest(true, s, q, cap, shear_guess(s, t), t)
+    let u = scaled(t, Degree::Four, q);
+    curved_highest(true, s, q, cap, near, u)
 }
 
-// The largest k up to the cap such that S reaches k/q.
-pub fn highest(kind: Stress, short: bool, s: Cylinder, q: u64, cap: u64) -> u64
-    requires { ⌜ (InLimits s) × (cap < base) × (0 < q) ⌝ }
+// A guess at S where it is a root, in points of the finer grid.
+fn plain_guess(roots: &[u8; 1024], t: Terms, d: Degree) -> u64
+    requires { ⌜ RootTable (now roots) ⌝ }
+    ensures { λ r. ⌜ PlainGuess d t r ⌝ }
+{
+    let y = interval_root::raised(t.d, d, FINER);
+    guess_of(roots, t.c, y, d)
+}
+
+// A guess at S for shear, short: the fourth root of d q⁴/(c + e √(w/(200 r))).
+fn shear_guess(roots: &[u8; 1024], s: Cylinder, t: Terms) -> u64
+    requires { ⌜ (InLimits s) × RootTable (now roots) ⌝ }
+    ensures { λ r. ⌜ CurvedGuess _+_ Four s t r ⌝ }
+{
+    let root = rough_root(roots, s);
+    let e = interval::times(t.e, interval::of(root));
+    let x = interval::plus(lifted(t.c), e);
+    let y = interval_root::raised(t.d, Degree::Four, FINER);
+    guess_of(roots, x, lifted(y), Degree::Four)
+}
+
+// A guess at S for axial stress, long: √(d q²/(c - e √(w/(200 r)))).
+fn bent_guess(roots: &[u8; 1024], s: Cylinder, t: Terms) -> u64
+    requires { ⌜ (InLimits s) × RootTable (now roots) ⌝ }
+    ensures { λ r. ⌜ CurvedGuess _-_ Two s t r ⌝ }
+{
+    let root = rough_root(roots, s);
+    let e = interval::times(t.e, interval::of(root));
+    let x = interval::minus(lifted(t.c), e);
+    let y = interval_root::raised(t.d, Degree::Two, FINER);
+    guess_of(roots, x, lifted(y), Degree::Two)
+}
+
+// A guess at S in points of the finer grid.
+pub fn guess_for(roots: &[u8; 1024], kind: Stress, short: bool, s: Cylinder, t: Terms) -> u64
+    requires { ⌜ (InLimits s) × RootTable (now roots) ⌝ }
+    ensures { λ r. ⌜ GuessFor kind short s t r ⌝ }
+{
+    match kind {
+        Stress::Axial => {
+            if short {
+                plain_guess(roots, t, Degree::Two)
+            } else {
+                bent_guess(roots, s, t)
+            }
+        }
+        Stress::Ring => {
+            if short {
+                plain_guess(roots, t, Degree::Four)
+            } else {
+                plain_guess(roots, t, Degree::Two)
+            }
+        }
+        Stress::Shear => {
+            if short {
+                shear_guess(roots, s, t)
+            } else {
+                plain_guess(roots, t, Degree::Four)
+            }
+        }
+    }
+}
+
+// The largest k up to the cap such that S reaches k/q. It is asked at the guess first.
+pub fn highest(
+    roots: &[u8; 1024],
+    kind: Stress,
+    short: bool,
+    s: Cylinder,
+    t: Terms,
+    q: u64,
+    cap: u64,
+    near: u64,
+) -> u64
+    requires { ⌜ (InLimits s) × (cap < base) × (0 < q) × (q < base) × (TermsFor kind short s t) × RootTable (now roots) ⌝ }
     ensures { λ r. ⌜ Highest (cutOf kind short s) q cap r ⌝ }
 {
     match kind {
         Stress::Axial => {
             if short {
-                axial_short_highest(s, q, cap)
+                axial_short_highest(roots, s, t, q, cap, near)
             } else {
-                axial_long_highest(s, q, cap)
+                axial_long_highest(roots, s, t, q, cap, near)
             }
         }
         Stress::Ring => {
             if short {
-                ring_short_highest(s, q, cap)
+                ring_short_highest(roots, s, t, q, cap, near)
             } else {
-                ring_long_highest(s, q, cap)
+                ring_long_highest(roots, s, t, q, cap, near)
             }
         }
         Stress::Shear => {
             if short {
-                shear_short_highest(s, q, cap)
+                shear_short_highest(roots, s, t, q, cap, near)
             } else {
-                shear_long_highest(s, q, cap)
+                shear_long_highest(roots, s, t, q, cap, near)
             }
         }
     }

@@ -5,6 +5,7 @@ ghost use mathlib.Core.Path.{_≡_};
 ghost use Prim.Native.Nat.{_-_, _*_, _≤_, _<_};
 ghost use Rattle.wide.specs.Value.{base};
 ghost use Rattle.factors.specs.Product.{prod};
+ghost use Rattle.guess.specs.Roots.{RootTable};
 ghost use Rattle.cylinder.specs.WholeCurves.{reduction1, reduction2, toleranceFactor, safety};
 ghost use Rattle.cylinder.specs.Search.{most};
 ghost use Rattle.term.specs.TermOf.{SmallParts, partOf, factor1, factor2, factorOf, termOf, powerOf};
@@ -231,13 +232,23 @@ fn power_for(stress: Stress) -> Power
 
 // The low bound of a stress's term at the slenderness k/q: how many millionths it reaches, up to 2,000,000.
 // The stress is num/den kN/m², the yield stress fy N/mm², the imperfection e thousandths over the permitted one.
-pub fn low(stress: Stress, b: Branches, fy: u64, num: u64, den: u64, e: u64, k: u64, q: u64) -> u64
-    requires { ⌜ (fy ≤ 700) × (SmallParts num den) × (e ≤ 1000) × (k < base) × (q ≤ 200000000) ⌝ }
+pub fn low(
+    roots: &[u8; 1024],
+    stress: Stress,
+    b: Branches,
+    fy: u64,
+    num: u64,
+    den: u64,
+    e: u64,
+    k: u64,
+    q: u64,
+) -> u64
+    requires { ⌜ (fy ≤ 700) × (SmallParts num den) × (e ≤ 1000) × (k < base) × (q ≤ 200000000) × RootTable (now roots) ⌝ }
     ensures { λ r. ⌜ r ≡ most (termOf stress b fy num den e) k q ⌝ }
 {
     let f = above(stress, b, e, k, q);
     let x = 10000 * fy * den;
     let g = below(stress, b, e, k, q);
     let y = 11 * num;
-    millionths::reached(power_for(stress), f, x, g, y)
+    millionths::reached(roots, power_for(stress), f, x, g, y)
 }

@@ -26,7 +26,8 @@ fn root_part(s: Cylinder, gust: u64) -> u64
     let r = s.radius;
     let f = [3276800, l, l, s.wall];
     let h = [279841, c, c, r, r, r, r, r, r, r, gust, gust, gust, gust];
-    root_search::root(&f, &h, Degree::Four, 4294967295)
+    let roots = guess::root_table();
+    root_search::root(&roots, &f, &h, Degree::Four, 4294967295)
 }
 
 // Whether the root is at most d, exactly.

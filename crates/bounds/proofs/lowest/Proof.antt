@@ -8,9 +8,6 @@ use Rattle.bounds.proofs.Stresses.{cut-is, term-is}
 use Rattle.bounds.proofs.lowest.Statement.{statement}
 use Rattle.bounds.proofs.lowest.Tie as tie
 
-is-short-requires : tie.Need-is-short-requires
-is-short-requires c κs = search needs
-
 place-requires : tie.Need-place-requires
 place-requires c κs = search needs
 
@@ -29,8 +26,9 @@ low-requires c κs = search needs
 returns : tie.Need-returns
 returns c =
     let p = c .before .before .before .before in
-    let a = p .before .before .args in
-    let k = cut-is (a .kind) (p .before .is-short .result) (a .s) (p .before .is-short .ensures) in
+    let b = p .before in
+    let a = b .args in
+    let k = cut-is (a .kind) (a .p .short) (a .s) (b .pre .2 .is-short) in
     let l = c .before .before .before .branches .result in
     let sides : Sides (slendernessOf (a .kind) (a .s)) l = subst (λ (x : Cut). Sides x l) k (c .before .before .before .branches .ensures) in
     let t = term-is (a .kind) (a .s) (a .num) (a .den) l (c .before .before .branches-for .result) sides (c .before .before .branches-for .ensures) in
@@ -40,7 +38,6 @@ pub lowest-spec : {M : Type 1} → statement M
 lowest-spec =
     tie.close
     (tie.spec
-    is-short-requires
     place-requires
     branches-requires
     branches-for-requires

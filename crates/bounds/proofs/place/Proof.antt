@@ -12,10 +12,12 @@ highest-requires c κs = search needs
 returns : tie.Need-returns
 returns c =
     let h = c .before in
-    let a = h .before .args in
-    let p = h .before .pre in
-    let f = found-near (cutOf (a .kind) (a .short) (a .s)) (lawful (a .kind) (a .short) (a .s) (p .0) (p .1)) (far (a .kind) (a .short) (a .s) (p .0) (p .1)) (h .highest .result)
-    (h .highest .ensures) (c .if1 .taken) in
+    let b = h .before .before in
+    let a = b .args in
+    let k = a .p .short in
+    let i = b .pre .0 in
+    let e = b .pre .1 .is-short in
+    let f = found-near (cutOf (a .kind) k (a .s)) (lawful (a .kind) k (a .s) i e) (far (a .kind) k (a .s) i e) (h .highest .result) (h .highest .ensures) (c .if1 .taken) in
     (f .0, f .1, omega arith, omega arith)
 
 highest-requires-2 : tie.Need-highest-requires-2
@@ -24,9 +26,12 @@ highest-requires-2 c κs = search needs
 returns-2 : tie.Need-returns-2
 returns-2 c =
     let h = c .before .before in
-    let a = h .before .args in
-    let p = h .before .pre in
-    let f = found-far (cutOf (a .kind) (a .short) (a .s)) (lawful (a .kind) (a .short) (a .s) (p .0) (p .1)) (far (a .kind) (a .short) (a .s) (p .0) (p .1)) (h .highest .result)
+    let b = h .before .before in
+    let a = b .args in
+    let k = a .p .short in
+    let i = b .pre .0 in
+    let e = b .pre .1 .is-short in
+    let f = found-far (cutOf (a .kind) k (a .s)) (lawful (a .kind) k (a .s) i e) (far (a .kind) k (a .s) i e) (h .highest .result)
     (c .highest2 .result) (h .highest .ensures) (c .before .if1 .left) (c .highest2 .ensures) in
     (f .0, f .1, omega (arith, c .highest2 .ensures .most), omega arith)
 

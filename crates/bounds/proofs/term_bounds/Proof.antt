@@ -16,10 +16,10 @@ returns c =
     (u .0, u .1, omega arith, omega arith)
 
 lowest-requires : tie.Need-lowest-requires
-lowest-requires c κs = search needs
+lowest-requires c κs = let p = c .before .before .pre in (p .0, p .1, p .2 (omega arith), p .3)
 
-add-t6 : tie.Need-add-t6
-add-t6 c = let a = c .before .before .before .args in omega (arith, c .lowest .ensures, low-most (a .kind) (a .s) (a .load .num) (a .load .den))
+add-t8 : tie.Need-add-t8
+add-t8 c = let a = c .before .before .before .args in omega (arith, c .lowest .ensures, low-most (a .kind) (a .s) (a .load .num) (a .load .den))
 
 returns-2 : tie.Need-returns-2
 returns-2 c =
@@ -31,4 +31,4 @@ returns-2 c =
     (e ∙ u .0, rw e (u .1), omega arith, omega arith)
 
 pub term-bounds-spec : {M : Type 1} → statement M
-term-bounds-spec = tie.close (tie.spec returns lowest-requires add-t6 returns-2)
+term-bounds-spec = tie.close (tie.spec returns lowest-requires add-t8 returns-2)

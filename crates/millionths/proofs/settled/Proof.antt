@@ -28,6 +28,9 @@ times-requires-2 c κs = search needs
 fifth-requires-2 : tie.Need-fifth-requires-2
 fifth-requires-2 c κs = search needs
 
+guess-of-requires : tie.Need-guess-of-requires
+guess-of-requires c κs = search needs
+
 settled-requires : tie.Need-settled-requires
 settled-requires c κs = search needs
 
@@ -46,26 +49,30 @@ times-requires-4 c κs = search needs
 times-requires-5 : tie.Need-times-requires-5
 times-requires-5 c κs = search needs
 
+guess-of-requires-2 : tie.Need-guess-of-requires-2
+guess-of-requires-2 c κs = search needs
+
 settled-requires-2 : tie.Need-settled-requires-2
 settled-requires-2 c κs = search needs
 
 returns : tie.Need-returns
 returns c says n m x y =
-    let f = c .before in
+    let f = c .before .before in
     let u = f .before in
     let t = u .before in
     let v = t .before in
     let o = v .before in
     let k = o .of .ensures in
-    c .settled .ensures says _ _ (f .fifth2 .ensures n x) (around-as _ (omega arith) (u .times2 .ensures _ _ (t .times .ensures _ _ (v .fifth .ensures m y) k) k))
+    c .settled .ensures says _ _ (f .fifth2 .ensures n x) (around-as _ (omega arith) (u .times2 .ensures _ _ (v .fifth .ensures m y) (t .times .ensures _ _ k k)))
     ∙ ap (λ (p : Power). reachedBy p n m) (sym (o .before .enum-told .given .1))
 
 returns-2 : tie.Need-returns-2
 returns-2 c says n m x y =
-    let u = c .before .before in
+    let x2 = c .before .before in
+    let u = x2 .before in
     let o = u .before in
     let s = o .before in
-    c .settled2 .ensures says _ _ (around-as _ (sym (pow-two n)) (c .before .times5 .ensures n n x x)) (around-as _ (thrice refl (sym (pow-two m))) (u .times4 .ensures _ _ (s .times3 .ensures m m y y) (o .of2 .ensures)))
+    c .settled2 .ensures says _ _ (around-as _ (sym (pow-two n)) (x2 .times5 .ensures n n x x)) (around-as _ (thrice refl (sym (pow-two m))) (u .times4 .ensures _ _ (s .times3 .ensures m m y y) (o .of2 .ensures)))
     ∙ ap (λ (p : Power). reachedBy p n m) (sym (s .before .enum-told2 .given .1))
 
 pub settled-spec : {M : Type 1} → statement M
@@ -78,12 +85,14 @@ settled-spec =
     times-requires
     times-requires-2
     fifth-requires-2
+    guess-of-requires
     settled-requires
     enum-told-2
     times-requires-3
     of-requires-2
     times-requires-4
     times-requires-5
+    guess-of-requires-2
     settled-requires-2
     returns
     returns-2)

@@ -1,39 +1,47 @@
+-- `outcome::count_lines` meets its contract. Assumes nothing.
+use mathlib.Core.Path.{ap}
+use native.Mathlib.Omega.{arith}
+use borrow.Author.Needs.{needs}
+use borrow.Author.Tests.{eq-eqb, ne-eqb}
+use lib.ListN.{length}
+use Rattle.text.proofs.Laws.{lines-nil}
+use Rattle.outcome.proofs.Newlines.{ended, unended}
 use Rattle.outcome.proofs.count_lines.Statement.{statement}
 use Rattle.outcome.proofs.count_lines.Tie as tie
-use borrow.Author.Needs.{needs}
-use native.Mathlib.Omega.{arith}
-use mathlib.Core.Path.{_≡_, ap}
-use Prim.Native.Nat.{_+_}
-use lib.ListN.{length}
-use Rattle.text.specs.Bytes.{lines}
-use Rattle.text.proofs.Laws.{rest-less, lines-turn, lines-le, lines-cons, lines-nil}
 
-abbrev Inv-loop : tie.InvT-loop
-Inv-loop sheet tail₀ n₀ tail n = n + length (lines tail) ≡ length (lines sheet)
+count-newlines-requires : tie.Need-count-newlines-requires
+count-newlines-requires c κs = search needs
 
-abbrev μ-loop : tie.MeasureT-loop
-μ-loop sheet tail₀ n₀ tail n = length tail
+returns : tie.Need-returns
+returns c = omega (arith, ap length (lines-nil (c .before .before .before .args .sheet .now) (omega arith)))
 
-loop-holds : tie.Need-loop-holds Inv-loop μ-loop
-loop-holds c = omega arith
+sub-last : tie.Need-sub-last
+sub-last c = search needs
 
-after-line-requires : tie.Need-after-line-requires Inv-loop μ-loop
-after-line-requires c κs = search needs
+shared-slice-read-if2 : tie.Need-shared-slice-read-if2
+shared-slice-read-if2 c = search needs
 
-add-n : tie.Need-add-n Inv-loop μ-loop
-add-n c =
-    omega (arith, lines-le (c .before .before .before .before .args .sheet .now), ap length (lines-cons (c .before .before .loop .tail .now) (c .before .loop-test .taken)))
+add-result : tie.Need-add-result
+add-result c = search needs
 
-loop-less : tie.Need-loop-less Inv-loop μ-loop
-loop-less c = rest-less _ _ (c .after-line .ensures) (c .before .loop-test .taken)
+returns-2 : tie.Need-returns-2
+returns-2 c =
+    let b = c .before .before in
+    omega (arith, b .before .count-newlines .ensures .0, ended (b .before .before .before .args .sheet .now) (omega arith) (eq-eqb _ _ (c .if2 .taken)))
 
-loop-again : tie.Need-loop-again Inv-loop μ-loop
-loop-again c = lines-turn _ _ _ _ (c .after-line .ensures) (c .before .loop-test .taken) (c .before .before .loop .inv)
-
-returns : tie.Need-returns Inv-loop μ-loop
-returns c = omega (arith, ap length (lines-nil (c .before .loop .tail .now) (c .loop-test .left)))
+returns-3 : tie.Need-returns-3
+returns-3 c =
+    let b = c .before .before in
+    omega (arith, b .before .count-newlines .ensures .0, unended (b .before .before .before .args .sheet .now) (omega arith) (ne-eqb _ _ (c .if2 .left)))
 
 pub count-lines-spec : {M : Type 1} → statement M
 count-lines-spec =
     tie.close
-    (tie.spec Inv-loop μ-loop loop-holds after-line-requires add-n loop-less loop-again returns)
+    (tie.spec
+    count-newlines-requires
+    returns
+    sub-last
+    shared-slice-read-if2
+    add-result
+    returns-2
+    returns-3)

@@ -48,15 +48,15 @@ put-entry-requires : tie.Need-put-entry-requires Inv-loop μ-loop
 unfolding listingBy
 put-entry-requires c κs = here-room _ _ _ _ _ _ _ _ (c .before .before .before .before .before .loop .inv) (told (c .before .before)) _ (c .before .with .ensures) (c .before .before .before .before .before .before .before .before .before .pre .1)
 
-after-line-requires : tie.Need-after-line-requires Inv-loop μ-loop
-after-line-requires c κs = search needs
+after-first-requires : tie.Need-after-first-requires Inv-loop μ-loop
+after-first-requires c κs = ap length (c .before .before .before .before .before .before .first-line .ensures)
 
 loop-less : tie.Need-loop-less Inv-loop μ-loop
-loop-less c = rest-less _ _ (c .after-line .ensures) (c .before .before .before .before .before .before .before .before .loop-test .taken)
+loop-less c = rest-less _ _ (c .after-first .ensures) (c .before .before .before .before .before .before .before .before .loop-test .taken)
 
 loop-again : tie.Need-loop-again Inv-loop μ-loop
 loop-again c =
-    here-turn _ _ _ _ _ _ _ _ (c .before .before .before .before .before .before .before .before .before .loop .inv) (told (c .before .before .before .before .before .before) ∙ ap (λ (l : List ℕ). c .before .before .before .before .before .before .answer .result ∷ answers l) (sym (c .after-line .ensures))) _ (c .before .before .before .before .before .with .ensures) _ _ (c .before .before .before .put-entry .ensures)
+    here-turn _ _ _ _ _ _ _ _ (c .before .before .before .before .before .before .before .before .before .loop .inv) (told (c .before .before .before .before .before .before) ∙ ap (λ (l : List ℕ). c .before .before .before .before .before .before .answer .result ∷ answers l) (sym (c .after-first .ensures))) _ (c .before .before .before .before .before .with .ensures) _ _ (c .before .before .before .put-entry .ensures)
 
 put-total-requires : tie.Need-put-total-requires Inv-loop μ-loop
 unfolding listingBy
@@ -85,7 +85,7 @@ put-listing-spec =
     answer-requires
     with-requires
     put-entry-requires
-    after-line-requires
+    after-first-requires
     loop-less
     loop-again
     put-total-requires

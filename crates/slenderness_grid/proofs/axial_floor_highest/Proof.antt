@@ -15,7 +15,7 @@ root-requires : tie.Need-root-requires
 root-requires c κs = search needs
 
 returns : tie.Need-returns
-returns c = let b = c .before .before .before in axial-floor-row (b .args .s) (b .args .q) (b .args .cap) (b .pre) (c .root .ensures) refl refl
+returns c = let b = c .before .before .before in axial-floor-row (b .args .s) (b .args .q) (b .args .cap) (b .pre .0) (c .root .ensures) refl refl
 
 pub axial-floor-highest-spec : {M : Type 1} → statement M
 axial-floor-highest-spec =

@@ -6,13 +6,13 @@ use borrow.Author.Needs.{needs}
 use Rattle.wide.specs.Value.{base}
 use Rattle.wide.proofs.Carry.{square-fits}
 use Rattle.interval.specs.Around.{Lies}
-use Rattle.slenderness_grid.proofs.Seen.{bentC, bentD, bentE, bent-reached, bent-missed}
+use Rattle.slenderness_grid.proofs.Seen.{bentUp, bentGrid, bentRoot, bent-reached, bent-missed}
 use Rattle.slenderness_grid.proofs.bent_reaches.Statement.{statement}
 use Rattle.slenderness_grid.proofs.bent_reaches.Tie as tie
 
 -- what the bounds show of the two sides
 seen : (c : tie.After-parted) → let b = c .before .before .before .before .before .before .before .before in
-    Lies (c .parted .result) ((bentC (b .args .s) (b .args .p) (b .args .q) - bentD (b .args .s) (b .args .p) (b .args .q)) ^ 2 * (200 * b .args .s .radius)) (bentE (b .args .s) (b .args .p) (b .args .q) ^ 2 * b .args .s .wall)
+    Lies (c .parted .result) ((bentUp (b .args .s) (b .args .p) (b .args .q) - bentGrid (b .args .s) (b .args .p) (b .args .q)) ^ 2 * (200 * b .args .s .radius)) (bentRoot (b .args .s) (b .args .p) (b .args .q) ^ 2 * b .args .s .wall)
 seen c =
     let r = c .before in
     let l = r .before in

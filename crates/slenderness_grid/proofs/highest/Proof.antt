@@ -10,28 +10,28 @@ enum-told : tie.Need-enum-told
 enum-told c = search needs
 
 axial-short-highest-requires : tie.Need-axial-short-highest-requires
-axial-short-highest-requires c κs = search needs
+axial-short-highest-requires c κs = let t = c .before in let p = t .before .before .pre in (p .1, p .3, rw (t .enum-told .given .1, c .if1 .taken) at (p .4), p .5)
 
 axial-long-highest-requires : tie.Need-axial-long-highest-requires
-axial-long-highest-requires c κs = search needs
+axial-long-highest-requires c κs = let t = c .before in let p = t .before .before .pre in (p .0, p .1, p .2, p .3, rw (t .enum-told .given .1, c .if1 .left) at (p .4), p .5)
 
 enum-told-2 : tie.Need-enum-told-2
 enum-told-2 c = search needs
 
 ring-short-highest-requires : tie.Need-ring-short-highest-requires
-ring-short-highest-requires c κs = search needs
+ring-short-highest-requires c κs = let t = c .before in let p = t .before .before .pre in (p .1, p .3, rw (t .enum-told2 .given .1, c .if2 .taken) at (p .4), p .5)
 
 ring-long-highest-requires : tie.Need-ring-long-highest-requires
-ring-long-highest-requires c κs = search needs
+ring-long-highest-requires c κs = let t = c .before in let p = t .before .before .pre in (p .1, p .3, rw (t .enum-told2 .given .1, c .if2 .left) at (p .4), p .5)
 
 enum-told-3 : tie.Need-enum-told-3
 enum-told-3 c = search needs
 
 shear-short-highest-requires : tie.Need-shear-short-highest-requires
-shear-short-highest-requires c κs = search needs
+shear-short-highest-requires c κs = let t = c .before in let p = t .before .before .pre in (p .0, p .1, p .3, rw (t .enum-told3 .given .1, c .if3 .taken) at (p .4), p .5)
 
 shear-long-highest-requires : tie.Need-shear-long-highest-requires
-shear-long-highest-requires c κs = search needs
+shear-long-highest-requires c κs = let t = c .before in let p = t .before .before .pre in (p .1, p .3, rw (t .enum-told3 .given .1, c .if3 .left) at (p .4), p .5)
 
 returns : tie.Need-returns
 returns c = let t = c .before .before in let a = t .before .before .args in highest-at (a .s) (a .q) (a .cap) _ Axial true (t .enum-told .given .1) (c .before .if1 .taken) (c .axial-short-highest .ensures)

@@ -6,13 +6,13 @@ use borrow.Author.Needs.{needs}
 use Rattle.wide.specs.Value.{base}
 use Rattle.wide.proofs.Carry.{square-fits}
 use Rattle.interval.specs.Around.{Lies}
-use Rattle.slenderness_grid.proofs.Seen.{shearE, shearD, shear-reached, shear-missed}
+use Rattle.slenderness_grid.proofs.Seen.{shearUp, shearRest, shear-reached, shear-missed}
 use Rattle.slenderness_grid.proofs.shear_reaches.Statement.{statement}
 use Rattle.slenderness_grid.proofs.shear_reaches.Tie as tie
 
 -- what the bounds show of the two sides
 seen : (c : tie.After-parted) → let b = c .before .before .before .before .before .before .before .before .before in
-    Lies (c .parted .result) (shearE (b .args .s) (b .args .p) (b .args .q) ^ 2 * b .args .s .wall) (shearD (b .args .s) (b .args .p) (b .args .q) ^ 2 * (200 * b .args .s .radius))
+    Lies (c .parted .result) (shearUp (b .args .s) (b .args .p) (b .args .q) ^ 2 * b .args .s .wall) (shearRest (b .args .s) (b .args .p) (b .args .q) ^ 2 * (200 * b .args .s .radius))
 seen c =
     let r = c .before in
     let l = r .before .before in

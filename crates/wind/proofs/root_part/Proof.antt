@@ -9,6 +9,9 @@ use Rattle.wind.proofs.root_part.Tie as tie
 ring-edges-requires : tie.Need-ring-edges-requires
 ring-edges-requires c κs = search needs
 
+root-table-requires : tie.Need-root-table-requires
+root-table-requires c κs = search needs
+
 slice-aggregate-root : tie.Need-slice-aggregate-root
 slice-aggregate-root c = search needs
 
@@ -20,7 +23,7 @@ root-requires c κs = search needs
 
 returns : tie.Need-returns
 returns c =
-    let e = c .before .before .before in
+    let e = c .before .before .before .before .before in
     let b = e .before in
     let is = part-row (b .args .s) (b .args .gust) (e .ring-edges .ensures .0) (c .root .ensures) refl refl in
     (is, eighths _ _ _ is .most)
@@ -30,6 +33,7 @@ root-part-spec =
     tie.close
     (tie.spec
     ring-edges-requires
+    root-table-requires
     slice-aggregate-root
     slice-aggregate-root-2
     root-requires
