@@ -32,7 +32,6 @@ fn count_newlines(sheet: &[u8]) -> u64
 
 // How many lines a sheet has: one for each newline, and one for bytes behind the last.
 fn count_lines(sheet: &[u8]) -> u64
-    requires { ⌜ length (now sheet) ≤ 65535 ⌝ }
     ensures { λ r. ⌜ r ≡ length (lines (now (sheet .entry))) ⌝ }
 {
     let n = count_newlines(sheet);

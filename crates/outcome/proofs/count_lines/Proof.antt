@@ -4,7 +4,7 @@ use native.Mathlib.Omega.{arith}
 use borrow.Author.Needs.{needs}
 use borrow.Author.Tests.{eq-eqb, ne-eqb}
 use lib.ListN.{length}
-use Rattle.text.proofs.Laws.{lines-nil}
+use Rattle.text.proofs.Laws.{lines-nil, lines-le}
 use Rattle.outcome.proofs.Newlines.{ended, unended}
 use Rattle.outcome.proofs.count_lines.Statement.{statement}
 use Rattle.outcome.proofs.count_lines.Tie as tie
@@ -22,7 +22,10 @@ shared-slice-read-if2 : tie.Need-shared-slice-read-if2
 shared-slice-read-if2 c = search needs
 
 add-result : tie.Need-add-result
-add-result c = search needs
+add-result c =
+    let b = c .before .before in
+    let s = b .before .before .before .args .sheet .now in
+    omega (arith, lines-le s, b .before .count-newlines .ensures .0, unended s (omega arith) (ne-eqb _ _ (c .if2 .left)))
 
 returns-2 : tie.Need-returns-2
 returns-2 c =
