@@ -1,4 +1,4 @@
-/* Times the C call beside the double formula, on the records of a file (eleven numbers a line, what follows '|' is not read).
+/* Times the judge's C call beside the double formula, on the records of a file (eleven numbers a line, what follows '|' is not read), and the choice of a plate.
    Records that are refused are left out. Figures are the medians of REPEATS runs, in ns a record. */
 #include <inttypes.h>
 #include <stdio.h>
@@ -10,6 +10,9 @@ enum { REPEATS = 15, MOST = 4096 };
 
 uint64_t shell_judge(uint64_t r, uint64_t t, uint64_t l, uint64_t e, uint64_t fy, uint64_t edges, uint64_t a,
                      uint64_t sx, uint64_t sphi, uint64_t tau, uint64_t d);
+
+uint64_t shell_choose_plate(const uint64_t *plates, size_t count, uint64_t r, uint64_t l, uint64_t e, uint64_t fy, uint64_t edges, uint64_t a,
+                            uint64_t nx, uint64_t nphi, uint64_t nxphi);
 
 static uint64_t rec[MOST][11];
 static volatile uint64_t sink;
@@ -44,6 +47,20 @@ static void run(const char *what, int which, size_t n) {
            t[1][REPEATS / 2], t[1][0], t[1][REPEATS - 1], t[0][REPEATS / 2] / t[1][REPEATS / 2]);
 }
 
+/* A choice in which each of 64 plates is judged and none holds, so no list of plates takes longer. */
+static void choose(void) {
+    uint64_t plates[64];
+    double t[REPEATS];
+    for (int i = 0; i < 64; i++) plates[i] = 300 + (uint64_t)i;
+    for (int r = 0; r < REPEATS; r++) {
+        double t0 = now();
+        for (int k = 0; k < 1000; k++) sink += shell_choose_plate(plates, 64, 5000, 10000, 210000, 240, 12, 1000, 200, 20, 100) == 100;
+        t[r] = (now() - t0) / 1000;
+    }
+    qsort(t, REPEATS, sizeof(double), order);
+    printf("%-24s %6d %10.0f (%.0f to %.0f)\n", "ns a choice, of plates", 64, t[REPEATS / 2], t[0], t[REPEATS - 1]);
+}
+
 int main(int argc, char **argv) {
     char line[512];
     size_t n = 0;
@@ -61,5 +78,6 @@ int main(int argc, char **argv) {
     run("ring alone", 2, n);
     run("shear alone", 4, n);
     run("no stress", 0, n);
+    choose();
     return 0;
 }

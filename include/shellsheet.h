@@ -1,16 +1,19 @@
-/* Judges one steel shell, an unstiffened circular cylinder, to DIN 18800-4:2008-11, and writes its line for a sheet. Link with -lshellsheet
-   (pkg-config shellsheet).
+/* Judges one steel shell, an unstiffened circular cylinder, to DIN 18800-4:2008-11, writes its line for a sheet, and chooses a plate for it. Link with
+   -lshellsheet (pkg-config shellsheet).
 
    UNITS: e and fy are in N/mm², but the three stresses are in kN/m²: 1 N/mm² is 1,000 kN/m². A stress passed in N/mm² is
    1,000 times too small, no check can notice it, and the shell holds. Round stresses and shortfalls up, and walls down.
 
    WHOLE NUMBERS: C cuts a double that is passed here without a word. Compile with -Wconversion, which warns of it, and round
    by hand: a stress of x N/mm² is (uint64_t)ceil(1000 * x), a wall of x mm (uint64_t)floor(100 * x), a shortfall of x mm
-   (uint64_t)ceil(100 * x), a gust pressure of x kN/m² (uint64_t)ceil(1000 * x). A negative whole number, such as a tension, arrives as one above 2^63 and is refused; a negative double
+   (uint64_t)ceil(100 * x), a gust pressure of x kN/m² (uint64_t)ceil(1000 * x), a line force of x N/mm (uint64_t)ceil(x). A negative whole number, such as a tension, arrives as one above 2^63 and is refused; a negative double
    has no defined value in C.
 
    WIND: shell_write_wind takes the gust pressure w in N/m²: 1 kN/m² is 1,000 N/m². One passed in kN/m² is 1,000 times too small, no check can
    notice it, and the shell holds. Round it up.
+
+   LINE FORCES: shell_choose_plate takes forces per length of edge in N/mm, which is kN/m. One passed in kN/mm is 1,000 times too small, no check can notice
+   it, and too thin a plate is chosen. Round forces up, and plates down.
 
    BEFORE VERSION 0.2 shell_judge had ten numbers, and no shortfall. A client that was compiled for it has to be changed and compiled
    again: it passes no d, and what stands in that place would be read as one. With 0 for d its answers are those that it had. */
@@ -22,7 +25,7 @@
 
 /* The version, as two numbers and as text: "MAJOR.MINOR". It stands here alone: make reads it from these two lines. */
 #define SHELLSHEET_VERSION_MAJOR 0
-#define SHELLSHEET_VERSION_MINOR 4
+#define SHELLSHEET_VERSION_MINOR 5
 #define SHELLSHEET_VERSION SHELLSHEET_TEXT(SHELLSHEET_VERSION_MAJOR, SHELLSHEET_VERSION_MINOR)
 #define SHELLSHEET_TEXT(major, minor) SHELLSHEET_QUOTE(major) "." SHELLSHEET_QUOTE(minor)
 #define SHELLSHEET_QUOTE(number) #number
@@ -84,18 +87,46 @@ uint64_t shell_write(uint8_t *out, size_t room, uint64_t r, uint64_t t, uint64_t
 uint64_t shell_write_wind(uint8_t *out, size_t room, uint64_t r, uint64_t t, uint64_t l, uint64_t e, uint64_t fy, uint64_t edges, uint64_t a,
                           uint64_t sx, uint64_t w, uint64_t v, uint64_t tau, uint64_t d);
 
+/* Chooses a plate from stock: the first of the count thicknesses from plates on with which a shell holds under three line forces.
+
+       plates           thicknesses, hundredths of a mm, each larger than the one before it
+       count            how many there are: 1 to 64
+       nx, nphi, nxphi  axial, ring and shear force per length of edge, N/mm, compression positive: up to 100,000
+
+   All other numbers are those of shell_judge, and any may be passed. There is no d: it counts as 0. A plate below 500 that may come thinner by d goes into the list
+   as t - d/2, rounded down.
+
+   Each plate is judged by itself, with a wall t of its thickness and stresses of 100,000 n/t kN/m², which are kept as fractions and not rounded. It is chosen if its
+   verdict is SHELL_HOLDS, and not if it fails or is open. It is passed over without a verdict where t is not from 100 to 10,000, r/t is not from 20 to 2,500, or a
+   stress is over 700,000 kN/m². A thicker plate may fail where a thinner one holds.
+
+   The answer is 100 and the place of the plate in the list, counted from 1, so 101 to 164; or 100 (SHELL_PLATE_NONE) if no plate of the list holds; or a refusal, 6, 7,
+   9, 10, 14 or 15. A list that is empty, too long or not in order is refused by 14, before any other check; with a count of 0 nothing is read from plates.
+
+   It allocates nothing, keeps no state, reads the list and changes no memory of the caller's, and may be called by many threads at once, also with one list. It takes
+   less than 16 KB of the calling thread's stack. */
+uint64_t shell_choose_plate(const uint64_t *plates, size_t count, uint64_t r, uint64_t l, uint64_t e, uint64_t fy, uint64_t edges, uint64_t a,
+                            uint64_t nx, uint64_t nphi, uint64_t nxphi);
+
 enum shell_bytes {
     SHELL_ROOM = 128,    /* of a buffer for shell_write or shell_write_wind, at least */
     SHELL_SHORTEST = 51  /* of a line with its newline, at least: a smaller answer is a refusal */
 };
 
-/* Why a record is refused: the first of these checks, in this order, that it breaks. */
+enum shell_plates {
+    SHELL_PLATES = 64,      /* in a list for shell_choose_plate, at most */
+    SHELL_PLATE_NONE = 100  /* its answer if no plate holds; with the place of a plate on top, its answer if one does */
+};
+
+/* Why a call is refused: the first of these checks, in this order, that is broken. */
 enum shell_refusals {
     SHELL_REFUSED_ROOM = 12,          /* of shell_write and shell_write_wind only: the buffer has fewer than 128 bytes */
-    SHELL_REFUSED_RANGE = 6,          /* r, t, l, e, fy or a stress is outside its range */
+    SHELL_REFUSED_PLATES = 14,        /* of shell_choose_plate only: the list has no plate or over 64, or one is not thicker than the one before it */
+    SHELL_REFUSED_RANGE = 6,          /* r, t, l, e, fy or a stress is outside its range; of shell_choose_plate r, l, e or fy */
     SHELL_REFUSED_EDGES = 7,          /* edges are not 11, 12 or 22 */
+    SHELL_REFUSED_FORCE = 15,         /* of shell_choose_plate only: a line force is over 100,000 */
     SHELL_REFUSED_SHORTFALL = 11,     /* d is over 50 */
-    SHELL_REFUSED_WALL = 8,           /* r/t is not from 20 to 2,500 */
+    SHELL_REFUSED_WALL = 8,           /* r/t is not from 20 to 2,500; shell_choose_plate passes over such a plate */
     SHELL_REFUSED_LENGTH = 9,         /* l is below r/20 or over 50 r */
     SHELL_REFUSED_IMPERFECTION = 10,  /* a is over 2,000 */
     SHELL_REFUSED_WIND = 13           /* of shell_write_wind only: w is over 10,000, or v is not 0 or 1 */
@@ -107,7 +138,7 @@ enum shell_verdicts {
     SHELL_OPEN = 3    /* it is so near to 1 that L and U do not part it from 1 */
 };
 
-/* The refusal in an answer, or 0 if the record was judged or written. */
+/* The refusal in an answer, or 0 if the call was not refused. */
 static inline unsigned shell_refusal(uint64_t answer) {
     return answer < SHELL_SHORTEST ? (unsigned)answer : 0;
 }
@@ -115,6 +146,11 @@ static inline unsigned shell_refusal(uint64_t answer) {
 /* The number of bytes that shell_write or shell_write_wind has put, or 0 if the record was refused. */
 static inline size_t shell_written(uint64_t answer) {
     return answer >= SHELL_SHORTEST && answer <= SHELL_ROOM ? (size_t)answer : 0;
+}
+
+/* The place, from 1, of the plate that shell_choose_plate has chosen, or 0 if none holds or the call was refused. */
+static inline unsigned shell_place(uint64_t answer) {
+    return answer > SHELL_PLATE_NONE && answer <= SHELL_PLATE_NONE + SHELL_PLATES ? (unsigned)(answer - SHELL_PLATE_NONE) : 0;
 }
 
 /* The verdict in an answer, or 0 if the record was refused. */
@@ -132,13 +168,16 @@ static inline unsigned shell_high(uint64_t answer) {
     return answer < 10000000000u ? 0 : (unsigned)(answer % 100000u);
 }
 
-/* An answer in words: "holds", "fails", "open", "written", or why the record was refused. Constant text in English, never null; for a
-   number that is no answer of these functions, "not an answer". */
+/* An answer in words: "holds", "fails", "open", "written", or why the call was refused. Constant text in English, never null; for a
+   number that is no answer of these functions, "not an answer". Of shell_choose_plate it knows the refusals alone: its other answers could be numbers of bytes too, and
+   shell_place tells what they are. */
 static inline const char *shell_reason(uint64_t answer) {
     switch (answer) {
     case SHELL_REFUSED_ROOM: return "the buffer has fewer than 128 bytes";
+    case SHELL_REFUSED_PLATES: return "the list has no plate or over 64, or a plate is not thicker than the one before it";
     case SHELL_REFUSED_RANGE: return "radius, wall, length, modulus, yield stress or a stress is outside its range";
     case SHELL_REFUSED_EDGES: return "the edges are not 11, 12 or 22";
+    case SHELL_REFUSED_FORCE: return "a line force is over 100,000";
     case SHELL_REFUSED_SHORTFALL: return "the shortfall is over 50 hundredths of a mm";
     case SHELL_REFUSED_WALL: return "r/t is not from 20 to 2,500";
     case SHELL_REFUSED_LENGTH: return "the length is below r/20 or over 50 r";

@@ -6,6 +6,7 @@
                 forms that there are calls for: n is 1, has and p are 0, and kind is 0 with sphi for x and 0 for y (shell_write), or 1 with w for x and
                 v for y (shell_write_wind). The lent buffer of room bytes holds (7 i + 3) mod 256 at place i; kept is 1 if all that the call must
                 not change is as it was, past the buffer's end too, else 0
+       plates   r l E fy edges a nx nphi nxphi n, then n plates, for shell_choose_plate: "R refusal" or "P place", with 0 for the place if no plate holds
 
    Another kind is a function, which takes the words of a case and prints its line, and a row in the table of kinds. */
 #define _POSIX_C_SOURCE 200809L
@@ -85,12 +86,37 @@ static void writer(void) {
     free(before);
 }
 
+enum { MOST_PLATES = 1 << 20 };
+
+static void plates(void) {
+    uint64_t v[9];
+    for (int i = 0; i < 9; i++) v[i] = number();
+    uint64_t given = number();
+    if (given > MOST_PLATES) broken("the list is too long");
+    size_t count = (size_t)given, size = (count + 1) * sizeof(uint64_t);  /* one more, so that no list is without memory */
+    uint64_t *lent = malloc(size), *before = malloc(size);
+    if (!lent || !before) broken("there is no memory for the list");
+    for (size_t i = 0; i < count; i++) lent[i] = number();
+    ended();
+    lent[count] = UINT64_MAX;
+    memcpy(before, lent, size);
+    uint64_t answer = shell_choose_plate(lent, count, v[0], v[1], v[2], v[3], v[4], v[5], v[6], v[7], v[8]);
+    if (memcmp(lent, before, size)) broken("the list was changed");
+    if (answer == SHELL_PLATE_NONE || shell_place(answer))
+        printf("P %u\n", shell_place(answer));
+    else
+        printf("R %" PRIu64 "\n", answer);
+    free(lent);
+    free(before);
+}
+
 static const struct {
     const char *name;
     void (*make)(void);
 } kinds[] = {
     {"calls", calls},
     {"writer", writer},
+    {"plates", plates},
 };
 
 int main(int argc, char **argv) {

@@ -1,6 +1,6 @@
 /* Judges and writes the records on standard input, lines of eleven numbers, by one thread and then by 8 at once, each on a stack of its own that was
-   painted before and into buffers of its own; each record is written a second time with wind, made of its ring stress. The answers have to be equal, and so
-   has what is in the buffers. Prints how far below their caller's frame the calls wrote: the stack they take. */
+   painted before and into buffers of its own; each record is written a second time with wind, made of its ring stress, and a plate is chosen for its shell from one
+   list for all. The answers have to be equal, and so has what is in the buffers. Prints how far below their caller's frame the calls wrote: the stack they take. */
 #define _GNU_SOURCE
 #include <inttypes.h>
 #include <pthread.h>
@@ -13,9 +13,11 @@
 enum { THREADS = 8, ROUNDS = 100, MOST = 4096, STACK = 1 << 18, PAINT = 0xA5 };
 
 struct answers {
-    uint64_t judged, written, windy;
+    uint64_t judged, written, windy, chosen;
     uint8_t line[SHELL_ROOM], wind[SHELL_ROOM];
 };
+
+static const uint64_t yard[] = {50, 200, 300, 400, 500, 600, 800, 1000, 1500, 2000, 3000, 10001};
 
 static uint64_t records[MOST][11];
 static struct answers wanted[MOST];
@@ -36,10 +38,11 @@ static void ask(const uint64_t *v, struct answers *to) {
     to->judged = shell_judge(v[0], v[1], v[2], v[3], v[4], v[5], v[6], v[7], v[8], v[9], v[10]);
     to->written = shell_write(to->line, sizeof to->line, v[0], v[1], v[2], v[3], v[4], v[5], v[6], v[7], v[8], v[9], v[10]);
     to->windy = shell_write_wind(to->wind, sizeof to->wind, v[0], v[1], v[2], v[3], v[4], v[5], v[6], v[7], v[8] % 10002, v[8] % 3, v[9], v[10]);
+    to->chosen = shell_choose_plate(yard, sizeof yard / sizeof *yard, v[0], v[2], v[3], v[4], v[5], v[6], v[7] / 100, v[8] / 100, v[9] / 100);
 }
 
 static int same(const struct answers *x, const struct answers *y) {
-    return x->judged == y->judged && x->written == y->written && x->windy == y->windy && !memcmp(x->line, y->line, sizeof x->line) &&
+    return x->judged == y->judged && x->written == y->written && x->windy == y->windy && x->chosen == y->chosen && !memcmp(x->line, y->line, sizeof x->line) &&
            !memcmp(x->wind, y->wind, sizeof x->wind);
 }
 

@@ -1,4 +1,4 @@
-// The calls from C (SCOPE 13, 20.7, 21.5, 22.9 and 22.10).
+// The calls from C (SCOPE 13, 20.7, 21.5, 22.9, 22.10 and 24.9).
 ghost use mathlib.Core.Path.{_≡_};
 ghost use mathlib.Core.List.{List};
 ghost use Prim.Native.Nat.{ℕ};
@@ -10,6 +10,11 @@ ghost use Rattle.record.specs.Right.{Right};
 ghost use Rattle.record.specs.Answering.{recordAnswer};
 ghost use Rattle.writer.specs.Writing.{numbered, NumberOfWriting};
 ghost use Rattle.writer.specs.Writer.{writing};
+ghost use Rattle.plates.specs.Plates.{shellOf, forcesOf, chosenNumber, NumberOfChoice};
+ghost use Rattle.plates.specs.Choosing.{plateJudgement, choosing};
+use plates::Forces;
+use plates::Shell;
+use plates::choose;
 use record::Record;
 use record::Ring;
 use writer::write;
@@ -83,4 +88,38 @@ pub extern "C" fn shell_write_wind(
     let c = Record::of(r, t, l, e, fy, edges, a, sx, Ring::Wind(w, v), tau, d);
     let put = write(out, c);
     put.number()
+}
+
+// A shell without thickness, shortfall and stresses, three line forces and a list of plates, and the number of the choice. Nothing is changed.
+#[no_mangle]
+pub extern "C" fn shell_choose_plate(
+    plates: &[u64],
+    r: u64,
+    l: u64,
+    e: u64,
+    fy: u64,
+    edges: u64,
+    a: u64,
+    nx: u64,
+    nphi: u64,
+    nxphi: u64,
+) -> u64
+    ensures { λ n. ⌜ n ≡ chosenNumber (choosing (shellOf r l e fy edges a) (forcesOf nx nphi nxphi) (now (plates .entry))) ⌝ }
+    ensures { λ n. ⌜ NumberOfChoice plateJudgement (shellOf r l e fy edges a) (forcesOf nx nphi nxphi) (now (plates .entry)) n ⌝ }
+{
+    let s = Shell {
+        radius: r,
+        length: l,
+        modulus: e,
+        yield_stress: fy,
+        edges,
+        imperfection: a,
+    };
+    let f = Forces {
+        axial: nx,
+        ring: nphi,
+        shear: nxphi,
+    };
+    let c = choose(s, f, plates);
+    c.number()
 }

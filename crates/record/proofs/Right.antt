@@ -1,7 +1,7 @@
 -- The program's answer to a record is Right: refused by the first check that is broken and never otherwise, else judged with bounds that hold.
 -- What follows of right answers: what the verdicts say, and which refusals there are. Assumes nothing.
 use mathlib.Core.Path.{_≡_, refl, sym, ap, _∙_}
-use mathlib.Core.List.{[], _∷_}
+use mathlib.Core.List.{List, [], _∷_}
 use Prim.Native.Nat.{ℕ, _+_, _≤_, _<_}
 use native.Mathlib.Omega.{arith}
 use mathlib.Core.Bool.{Bool, true, false}
@@ -19,14 +19,14 @@ use Rattle.answer.specs.declared.Answer.{Answer}
 use Rattle.answer.specs.declared.Answer.the-variants.{Refused, Judged}
 use Rattle.answer.specs.Answers.{verdictOf}
 use Rattle.answer.specs.Answering.{Bounded}
-use Rattle.answer.specs.Checks.{AllPassed}
+use Rattle.answer.specs.Checks.{Check, AllPassed}
 use Rattle.answer.specs.Right.{RightBy, refused, judged}
 use Rattle.answer.proofs.Checks.{Among, among-every, broken-passed}
 use Rattle.answer.proofs.Right
 use Rattle.answer.proofs.Verdicts.{verdict-holds, verdict-fails, verdict-open, holds-verdict, fails-verdict}
 use Rattle.record.specs.declared.Record.{Record}
 use Rattle.record.specs.Limits.{checks, cylinderOf}
-use Rattle.record.specs.Right.{ringStress, RecordOver, Bounds, Right, Means}
+use Rattle.record.specs.Right.{ringStress, RecordOver, BoundsOf, Bounds, Right, Means}
 use Rattle.record.specs.Answering.{boundsOf, judgementOfRecord, recordAnswer}
 use Rattle.record.proofs.Checks.{cylinder-within}
 
@@ -54,37 +54,56 @@ module _ (c : Record) where
   pub right-bounded : (a : Answer) → Right c a → Bounded a
   right-bounded a r = Right.right-bounded (checks c) (Bounds c) (λ j b. (b .encloses .L-most, b .encloses .U-most)) a r
 
--- ---- what a verdict says of the exact sum
+-- ---- what a verdict says of an exact sum, whatever the checks and the sum are
 
+module _ (ks : List Check) (Exceeds : ℕ → ℕ → Type 0) (down : Verdict.Downward Exceeds) (j : Judgement) where
+  pub sum-holds : RightBy ks (BoundsOf Exceeds) (Judged j) → j .verdict ≡ Holds → AtMost Exceeds 1 1
+  sum-holds (judged _ all b v) h = Verdict.holds-only (b .encloses) down (verdict-holds (j .low) (j .high) (sym v ∙ h))
+
+  pub sum-fails : RightBy ks (BoundsOf Exceeds) (Judged j) → j .verdict ≡ Fails → Exceeds 1 1
+  sum-fails (judged _ all b v) h = Verdict.fails-only (b .encloses) (verdict-fails (j .low) (j .high) (sym v ∙ h))
+
+  pub sum-near : RightBy ks (BoundsOf Exceeds) (Judged j) → j .verdict ≡ Open → AtLeast Exceeds 9999 10000 × AtMost Exceeds 10002 10000
+  sum-near (judged _ all b v) h =
+      let (over, under) = verdict-open (j .low) (j .high) (sym v ∙ h) in
+      Verdict.open-only (b .encloses) down (b .close) over under
+
+  pub sum-band : RightBy ks (BoundsOf Exceeds) (Judged j) → j .verdict ≡ Open → AtLeast Exceeds 99 100 × AtMost Exceeds 101 100
+  sum-band (judged _ all b v) h =
+      let (over, under) = verdict-open (j .low) (j .high) (sym v ∙ h) in
+      Verdict.open-band (b .encloses) down (omega (arith, b .close)) over under
+
+  pub sum-means : RightBy ks (BoundsOf Exceeds) (Judged j) → Means Exceeds (j .verdict)
+  sum-means r = go (j .verdict) refl
+    where
+      go : (v : Verdict) → j .verdict ≡ v → Means Exceeds v
+      go Holds e = sum-holds r e
+      go Fails e = sum-fails r e
+      go Open e = sum-band r e
+
+-- and so of that of a record
 module _ (c : Record) (j : Judgement) where
+  down : Verdict.Downward (RecordOver c)
+  down = Verdict.sum-over-down _ _ _
+
   -- holds only if the exact sum is at most 1
   pub holds-at-most : Right c (Judged j) → j .verdict ≡ Holds → AtMost (RecordOver c) 1 1
-  holds-at-most (judged _ all b v) h =
-      Verdict.holds-only (b .encloses) (Verdict.sum-over-down _ _ _) (verdict-holds (j .low) (j .high) (sym v ∙ h))
+  holds-at-most = sum-holds (checks c) (RecordOver c) down j
 
   -- fails only if it is over 1
   pub fails-over : Right c (Judged j) → j .verdict ≡ Fails → RecordOver c 1 1
-  fails-over (judged _ all b v) h = Verdict.fails-only (b .encloses) (verdict-fails (j .low) (j .high) (sym v ∙ h))
+  fails-over = sum-fails (checks c) (RecordOver c) down j
 
   -- open only if it lies from 0.9999 to 1.0002
   pub open-near : Right c (Judged j) → j .verdict ≡ Open → AtLeast (RecordOver c) 9999 10000 × AtMost (RecordOver c) 10002 10000
-  open-near (judged _ all b v) h =
-      let (over, under) = verdict-open (j .low) (j .high) (sym v ∙ h) in
-      Verdict.open-only (b .encloses) (Verdict.sum-over-down _ _ _) (b .close) over under
+  open-near = sum-near (checks c) (RecordOver c) down j
 
   -- and so from 0.99 to 1.01, the band of SCOPE 9.13
   pub open-band : Right c (Judged j) → j .verdict ≡ Open → AtLeast (RecordOver c) 99 100 × AtMost (RecordOver c) 101 100
-  open-band (judged _ all b v) h =
-      let (over, under) = verdict-open (j .low) (j .high) (sym v ∙ h) in
-      Verdict.open-band (b .encloses) (Verdict.sum-over-down _ _ _) (omega (arith, b .close)) over under
+  open-band = sum-band (checks c) (RecordOver c) down j
 
   pub verdict-means : Right c (Judged j) → Means (RecordOver c) (j .verdict)
-  verdict-means r = go (j .verdict) refl
-    where
-      go : (v : Verdict) → j .verdict ≡ v → Means (RecordOver c) v
-      go Holds e = holds-at-most r e
-      go Fails e = fails-over r e
-      go Open e = open-band r e
+  verdict-means = sum-means (checks c) (RecordOver c) down j
 
 -- ---- L and U of two right answers overlap, so a verdict is the only one where the sum is far enough from 1
 

@@ -19,8 +19,17 @@ fromTo low high x = leb low x && leb x high
 -- ---- check 6: r, t, l, E, fy or a stress outside its range
 
 -- r 100 to 50,000; t 100 to 10,000; l 10 to 200,000
+abbrev pub radiusInRange : Wall → Bool
+radiusInRange w = fromTo 100 50000 (w .radius)
+
+abbrev pub thicknessInRange : Wall → Bool
+thicknessInRange w = fromTo 100 10000 (w .thickness)
+
+abbrev pub lengthInRange : Wall → Bool
+lengthInRange w = fromTo 10 200000 (w .length)
+
 abbrev pub dimensions : Wall → Bool
-dimensions w = fromTo 100 50000 (w .radius) && (fromTo 100 10000 (w .thickness) && fromTo 10 200000 (w .length))
+dimensions w = radiusInRange w && (thicknessInRange w && lengthInRange w)
 
 -- E 60,000 to 220,000; fy 100 to 700
 abbrev pub material : Wall → Bool

@@ -3,7 +3,7 @@ use crate::say::say;
 
 // The version, as include/shellsheet.h has it.
 pub(crate) fn say_version() -> bool {
-    say(true, b"shellsheet 0.4\n")
+    say(true, b"shellsheet 0.5\n")
 }
 
 fn say_usage() -> bool {
