@@ -37,7 +37,7 @@ static void run(const char *what, int which, size_t n) {
             for (size_t i = 0; i < m; i++) sink += exact(v[i]);
         double t1 = now();
         for (int k = 0; k < rounds; k++)
-            for (size_t i = 0; i < m; i++) dsink += double_sum(v[i]);
+            for (size_t i = 0; i < m; i++) dsink += double_sum(v[i], 0);
         t[0][r] = (t1 - t0) / rounds / m;
         t[1][r] = (now() - t1) / rounds / m;
     }

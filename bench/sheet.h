@@ -26,7 +26,7 @@ static int outside(uint64_t x, uint64_t low, uint64_t high) { return x < low || 
 
 /* The answer to a line: a refusal, HOLDS or FAILS. */
 static int double_answer(const unsigned char *at, const unsigned char *end) {
-    uint64_t v[11], w = 0, vented = 0;
+    uint64_t v[11], w = 0, vented = 0, p = 0;
     if (end - at > 128) return 4;
     at = fixed(at, end, "(shell ");
     for (int i = 0; i < 7; i++) at = number(i ? fixed(at, end, " ") : at, end, &v[i]);
@@ -38,7 +38,9 @@ static int double_answer(const unsigned char *at, const unsigned char *end) {
     const unsigned char *wind = fixed(at, end, "(wind ");
     v[8] = 0; /* a line with wind */
     at = wind ? fixed(number(fixed(number(wind, end, &w), end, " "), end, &vented), end, ") ") : fixed(number(at, end, &v[8]), end, " ");
-    at = fixed(number(at, end, &v[9]), end, "))");
+    at = fixed(number(at, end, &v[9]), end, ")");
+    const unsigned char *inner = fixed(at, end, " (inner ");
+    at = fixed(inner ? fixed(number(inner, end, &p), end, ")") : at, end, ")");
     if (at != end) return 5;
     if (outside(v[0], 100, 50000) || outside(v[1], 100, 10000) || outside(v[2], 10, 200000) || outside(v[3], 60000, 220000) ||
         outside(v[4], 100, 700) || v[7] > 700000 || v[8] > 700000 || v[9] > 700000)
@@ -50,8 +52,9 @@ static int double_answer(const unsigned char *at, const unsigned char *end) {
     if (v[0] > 20 * v[2] || v[2] > 50 * v[0]) return 9;
     if (v[6] > 2000) return 10;
     if (w > 10000 || vented > 1) return 13;
+    if (p > 1000000) return 16;
     if (wind) v[8] = (uint64_t)double_wind(v, w, vented);
-    return double_sum(v) <= 1 ? HOLDS : FAILS;
+    return double_sum(v, p) <= 1 ? HOLDS : FAILS;
 }
 
 static char *put_number(char *out, unsigned x) {

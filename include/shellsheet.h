@@ -1,16 +1,20 @@
-/* Judges one steel shell, an unstiffened circular cylinder, to DIN 18800-4:2008-11, writes its line for a sheet, and chooses a plate for it. Link with
-   -lshellsheet (pkg-config shellsheet).
+/* Judges one steel shell, an unstiffened circular cylinder, to DIN 18800-4:2008-11, by its numbers or by its line of a sheet, writes its line, and chooses a plate for it.
+   Link with -lshellsheet (pkg-config shellsheet).
 
    UNITS: e and fy are in N/mm², but the three stresses are in kN/m²: 1 N/mm² is 1,000 kN/m². A stress passed in N/mm² is
    1,000 times too small, no check can notice it, and the shell holds. Round stresses and shortfalls up, and walls down.
 
    WHOLE NUMBERS: C cuts a double that is passed here without a word. Compile with -Wconversion, which warns of it, and round
    by hand: a stress of x N/mm² is (uint64_t)ceil(1000 * x), a wall of x mm (uint64_t)floor(100 * x), a shortfall of x mm
-   (uint64_t)ceil(100 * x), a gust pressure of x kN/m² (uint64_t)ceil(1000 * x), a line force of x N/mm (uint64_t)ceil(x). A negative whole number, such as a tension, arrives as one above 2^63 and is refused; a negative double
+   (uint64_t)ceil(100 * x), a gust pressure of x kN/m² (uint64_t)ceil(1000 * x), an internal pressure of x kN/m² (uint64_t)floor(1000 * x), a line force of x N/mm
+   (uint64_t)ceil(x). A negative whole number, such as a tension, arrives as one above 2^63 and is refused; a negative double
    has no defined value in C.
 
    WIND: shell_write_wind takes the gust pressure w in N/m²: 1 kN/m² is 1,000 N/m². One passed in kN/m² is 1,000 times too small, no check can
    notice it, and the shell holds. Round it up.
+
+   INTERNAL PRESSURE: shell_write_inner and shell_write_wind_inner take it in N/m²: 1 kN/m² is 1,000 N/m². It raises a resistance: pass only what is there for certain
+   whenever the axial stress is, without a factor, and round it down.
 
    LINE FORCES: shell_choose_plate takes forces per length of edge in N/mm, which is kN/m. One passed in kN/mm is 1,000 times too small, no check can notice
    it, and too thin a plate is chosen. Round forces up, and plates down.
@@ -25,7 +29,7 @@
 
 /* The version, as two numbers and as text: "MAJOR.MINOR". It stands here alone: make reads it from these two lines. */
 #define SHELLSHEET_VERSION_MAJOR 0
-#define SHELLSHEET_VERSION_MINOR 5
+#define SHELLSHEET_VERSION_MINOR 6
 #define SHELLSHEET_VERSION SHELLSHEET_TEXT(SHELLSHEET_VERSION_MAJOR, SHELLSHEET_VERSION_MINOR)
 #define SHELLSHEET_TEXT(major, minor) SHELLSHEET_QUOTE(major) "." SHELLSHEET_QUOTE(minor)
 #define SHELLSHEET_QUOTE(number) #number
@@ -51,9 +55,26 @@ extern "C" {
    from 20 to 2,500, with that wall, and l from r/20 to 50 r.
 
    It allocates nothing, keeps no state, changes no memory of the caller's, and may be called by many threads at once. It takes
-   less than 16 KB of the calling thread's stack. */
+   less than 20 KB of the calling thread's stack. */
 uint64_t shell_judge(uint64_t r, uint64_t t, uint64_t l, uint64_t e, uint64_t fy, uint64_t edges, uint64_t a,
                      uint64_t sx, uint64_t sphi, uint64_t tau, uint64_t d);
+
+/* The answer to one line of a sheet, given as length bytes without a newline behind them: a refusal, 4 to 11, 13 or 16, or
+   10,000,000,000 × verdict + 100,000 × L + U, as of shell_judge. Any bytes may be passed, and with a length of 0 none is read.
+
+   The line may have wind or an internal pressure, which shell_judge does not take:
+
+       (shell r t l e fy edges a d (stress sx sphi tau))
+       (shell r t l e fy edges a d (stress sx (wind w v) tau))
+
+   each with or without d, and with or without (inner p) behind the stresses, inside the last bracket: (shell .. (stress ..) (inner p)). A line of over 128 bytes is
+   refused by 4, one that is not of the form by 5. The program shellsheet gives the same verdict or refusal to the line in a sheet.
+
+   Where the test of the internal pressure cannot be decided, U may be more than L + 2: L is of the sum with the pressure's gain, U of the sum without it.
+
+   It allocates nothing, keeps no state, reads the line and changes no memory of the caller's, and may be called by many threads at once, also with one line. It takes
+   less than 20 KB of the calling thread's stack. */
+uint64_t shell_judge_line(const uint8_t *line, size_t length);
 
 /* Writes the line of one record, and a newline behind it, at the start of the room bytes from out on:
 
@@ -87,6 +108,32 @@ uint64_t shell_write(uint8_t *out, size_t room, uint64_t r, uint64_t t, uint64_t
 uint64_t shell_write_wind(uint8_t *out, size_t room, uint64_t r, uint64_t t, uint64_t l, uint64_t e, uint64_t fy, uint64_t edges, uint64_t a,
                           uint64_t sx, uint64_t w, uint64_t v, uint64_t tau, uint64_t d);
 
+/* Writes the line of one record under internal pressure, as shell_write does, with the pressure behind the stresses:
+
+       (shell r t l e fy edges a d (stress sx sphi tau) (inner p))
+
+       p              internal pressure, N/m² (not kN/m²): up to 1,000,000
+
+   It is written also where it is 0; shell_write writes a line without it, and the two lines have the same answer. All other numbers are those of shell_write.
+
+   By element 429 of the standard the pressure raises the axial resistance of a shell with l/r up to 0.5 sqrt(r/t) and an axial slenderness S above 0.7, where
+   (p/fy) (r/t) is at most 0.5 sqrt(1 - 0.75 k^2) - 0.25 k: kappa2 rises by a factor 1 + 1.2 S P^0.38 with P = (p/e) (r/t)^2, in which 1.2 S P^0.38 is scaled by
+   (S - 0.7)/0.3 below S = 1, and k is kappa2 so raised and with the tolerance. On other shells it has no effect.
+
+   The answer is the number of bytes put, 61 to 95, or a refusal, 6 to 12 or 16; room, the bytes that keep their values, memory and threads are as with
+   shell_write. It takes less than 16 KB of the calling thread's stack. */
+uint64_t shell_write_inner(uint8_t *out, size_t room, uint64_t r, uint64_t t, uint64_t l, uint64_t e, uint64_t fy, uint64_t edges, uint64_t a,
+                           uint64_t sx, uint64_t sphi, uint64_t tau, uint64_t d, uint64_t p);
+
+/* Writes the line of one record under wind and internal pressure, as shell_write_wind and shell_write_inner do:
+
+       (shell r t l e fy edges a d (stress sx (wind w v) tau) (inner p))
+
+   The answer is the number of bytes put, 70 to 103, or a refusal, 6 to 13 or 16; all else is as with shell_write_wind and shell_write_inner. It takes
+   less than 16 KB of the calling thread's stack. */
+uint64_t shell_write_wind_inner(uint8_t *out, size_t room, uint64_t r, uint64_t t, uint64_t l, uint64_t e, uint64_t fy, uint64_t edges, uint64_t a,
+                                uint64_t sx, uint64_t w, uint64_t v, uint64_t tau, uint64_t d, uint64_t p);
+
 /* Chooses a plate from stock: the first of the count thicknesses from plates on with which a shell holds under three line forces.
 
        plates           thicknesses, hundredths of a mm, each larger than the one before it
@@ -109,7 +156,7 @@ uint64_t shell_choose_plate(const uint64_t *plates, size_t count, uint64_t r, ui
                             uint64_t nx, uint64_t nphi, uint64_t nxphi);
 
 enum shell_bytes {
-    SHELL_ROOM = 128,    /* of a buffer for shell_write or shell_write_wind, at least */
+    SHELL_ROOM = 128,    /* of a buffer for shell_write and the others that write, at least */
     SHELL_SHORTEST = 51  /* of a line with its newline, at least: a smaller answer is a refusal */
 };
 
@@ -120,7 +167,9 @@ enum shell_plates {
 
 /* Why a call is refused: the first of these checks, in this order, that is broken. */
 enum shell_refusals {
-    SHELL_REFUSED_ROOM = 12,          /* of shell_write and shell_write_wind only: the buffer has fewer than 128 bytes */
+    SHELL_REFUSED_LINE = 4,           /* of shell_judge_line only: the line has over 128 bytes */
+    SHELL_REFUSED_FORM = 5,           /* of shell_judge_line only: the line is not of the form */
+    SHELL_REFUSED_ROOM = 12,          /* of the calls that write only: the buffer has fewer than 128 bytes */
     SHELL_REFUSED_PLATES = 14,        /* of shell_choose_plate only: the list has no plate or over 64, or one is not thicker than the one before it */
     SHELL_REFUSED_RANGE = 6,          /* r, t, l, e, fy or a stress is outside its range; of shell_choose_plate r, l, e or fy */
     SHELL_REFUSED_EDGES = 7,          /* edges are not 11, 12 or 22 */
@@ -129,13 +178,14 @@ enum shell_refusals {
     SHELL_REFUSED_WALL = 8,           /* r/t is not from 20 to 2,500; shell_choose_plate passes over such a plate */
     SHELL_REFUSED_LENGTH = 9,         /* l is below r/20 or over 50 r */
     SHELL_REFUSED_IMPERFECTION = 10,  /* a is over 2,000 */
-    SHELL_REFUSED_WIND = 13           /* of shell_write_wind only: w is over 10,000, or v is not 0 or 1 */
+    SHELL_REFUSED_WIND = 13,          /* of a record under wind only: w is over 10,000, or v is not 0 or 1 */
+    SHELL_REFUSED_PRESSURE = 16       /* of a record with an internal pressure only: p is over 1,000,000 */
 };
 
 enum shell_verdicts {
     SHELL_HOLDS = 1,  /* the exact sum of (50) is at most 1 */
     SHELL_FAILS = 2,  /* it is over 1 */
-    SHELL_OPEN = 3    /* it is so near to 1 that L and U do not part it from 1 */
+    SHELL_OPEN = 3    /* L and U do not part it from 1: it is next to 1, or the test of an internal pressure cannot be decided */
 };
 
 /* The refusal in an answer, or 0 if the call was not refused. */
@@ -143,7 +193,7 @@ static inline unsigned shell_refusal(uint64_t answer) {
     return answer < SHELL_SHORTEST ? (unsigned)answer : 0;
 }
 
-/* The number of bytes that shell_write or shell_write_wind has put, or 0 if the record was refused. */
+/* The number of bytes that shell_write or another call that writes has put, or 0 if the record was refused. */
 static inline size_t shell_written(uint64_t answer) {
     return answer >= SHELL_SHORTEST && answer <= SHELL_ROOM ? (size_t)answer : 0;
 }
@@ -163,7 +213,7 @@ static inline unsigned shell_low(uint64_t answer) {
     return (unsigned)(answer % 10000000000u / 100000u);
 }
 
-/* U: if U is below 20,000, the exact sum is at most U/10,000. At most 20,000, and at most L + 2. */
+/* U: if U is below 20,000, the exact sum is at most U/10,000. At most 20,000, and at most L + 2, but where the test of an internal pressure cannot be decided. */
 static inline unsigned shell_high(uint64_t answer) {
     return answer < 10000000000u ? 0 : (unsigned)(answer % 100000u);
 }
@@ -173,6 +223,8 @@ static inline unsigned shell_high(uint64_t answer) {
    shell_place tells what they are. */
 static inline const char *shell_reason(uint64_t answer) {
     switch (answer) {
+    case SHELL_REFUSED_LINE: return "the line has over 128 bytes";
+    case SHELL_REFUSED_FORM: return "the line is not of the form";
     case SHELL_REFUSED_ROOM: return "the buffer has fewer than 128 bytes";
     case SHELL_REFUSED_PLATES: return "the list has no plate or over 64, or a plate is not thicker than the one before it";
     case SHELL_REFUSED_RANGE: return "radius, wall, length, modulus, yield stress or a stress is outside its range";
@@ -183,6 +235,7 @@ static inline const char *shell_reason(uint64_t answer) {
     case SHELL_REFUSED_LENGTH: return "the length is below r/20 or over 50 r";
     case SHELL_REFUSED_IMPERFECTION: return "the imperfection is over 2,000";
     case SHELL_REFUSED_WIND: return "the gust pressure is over 10,000, or v is not 0 or 1";
+    case SHELL_REFUSED_PRESSURE: return "the internal pressure is over 1,000,000";
     default: break;
     }
     if (shell_written(answer)) return "written";

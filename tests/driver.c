@@ -2,10 +2,12 @@
    of a case are parted by one space; what stands behind " = ", the expected answer, is not read, and neither is a line that starts with #.
 
        calls    the eleven numbers of shell_judge: the number that it returns
+       lines    the bytes of one line, for shell_judge_line: "R refusal" or "J verdict case L U", with 1 for the case, the place of the group that is judged. Bytes are
+                hex, or hh*n for n equal ones, parts joined by "."; "-" is none
        writer   room r t l E fy edges a d n, n times sx kind x y tau, then has p: "R refusal kept" or "B length bytes kept", the bytes in hex. The
-                forms that there are calls for: n is 1, has and p are 0, and kind is 0 with sphi for x and 0 for y (shell_write), or 1 with w for x and
-                v for y (shell_write_wind). The lent buffer of room bytes holds (7 i + 3) mod 256 at place i; kept is 1 if all that the call must
-                not change is as it was, past the buffer's end too, else 0
+                forms that there are calls for: n is 1, and kind is 0 with sphi for x and 0 for y (shell_write), or 1 with w for x and v for y
+                (shell_write_wind); has is 0 with 0 for p, or 1 (shell_write_inner, shell_write_wind_inner). The lent buffer of room bytes holds (7 i + 3)
+                mod 256 at place i; kept is 1 if all that the call must not change is as it was, past the buffer's end too, else 0
        plates   r l E fy edges a nx nphi nxphi n, then n plates, for shell_choose_plate: "R refusal" or "P place", with 0 for the place if no plate holds
 
    Another kind is a function, which takes the words of a case and prints its line, and a row in the table of kinds. */
@@ -57,6 +59,56 @@ static void calls(void) {
 
 enum { MOST_ROOM = 1 << 24, PAST = 256 };  /* PAST: bytes behind the lent ones */
 
+static int digit(char c) {
+    const char *digits = "0123456789abcdef", *at = c ? strchr(digits, c) : NULL;
+    return at ? (int)(at - digits) : -1;
+}
+
+/* The bytes of a word, to the place given, or to none; how many there are. */
+static size_t bytes(const char *w, unsigned char *to) {
+    size_t count = 0;
+    if (!strcmp(w, "-")) return 0;
+    for (;;) {
+        unsigned long long times = 1;
+        int high = digit(*w), low = high < 0 ? -1 : digit(w[1]);
+        if (low < 0) broken("a word is not bytes, or missing");
+        w += 2;
+        if (*w == '*') {
+            char *end;
+            if (digit(w[1]) < 0 || digit(w[1]) > 9) broken("a word is not bytes, or missing");
+            errno = 0;
+            times = strtoull(w + 1, &end, 10);
+            w = end;
+            if (errno || times > MOST_ROOM) broken("the line is too long");
+            if (*w && *w != '.') broken("a word is not bytes, or missing");
+        }
+        if (times > MOST_ROOM - count) broken("the line is too long");
+        if (to) memset(to + count, 16 * high + low, (size_t)times);
+        count += (size_t)times;
+        if (!*w) return count;
+        if (*w == '.') w++;
+    }
+}
+
+static void lines(void) {
+    const char *w = word();
+    ended();
+    size_t length = bytes(w, NULL);
+    unsigned char *lent = malloc(length + PAST), *before = malloc(length + PAST);
+    if (!lent || !before) broken("there is no memory for the line");
+    bytes(w, lent);
+    memset(lent + length, ')', PAST);  /* a reader that goes on finds brackets */
+    memcpy(before, lent, length + PAST);
+    uint64_t answer = shell_judge_line(lent, length);
+    if (memcmp(lent, before, length + PAST)) broken("the line was changed");
+    if (shell_verdict(answer))
+        printf("J %u 1 %u %u\n", shell_verdict(answer), shell_low(answer), shell_high(answer));
+    else
+        printf("R %" PRIu64 "\n", answer);
+    free(lent);
+    free(before);
+}
+
 static void writer(void) {
     uint64_t given = number(), w[8];
     if (given > MOST_ROOM) broken("the buffer is too large");
@@ -65,14 +117,18 @@ static void writer(void) {
     uint64_t sx = number(), kind = number(), x = number(), y = number(), tau = number();
     if (kind > 1) broken("a group is of kind 0 or 1");
     if (kind == 0 && y != 0) broken("a group of kind 0 has 0 for y");
-    if (number() != 0 || number() != 0) broken("a line has no inner pressure");
+    uint64_t has = number(), p = number();
+    if (has > 1) broken("a line has an inner pressure or has none");
+    if (has == 0 && p != 0) broken("an inner pressure that is missing has 0 for p");
     ended();
     size_t room = (size_t)given, size = room + PAST;
     unsigned char *lent = malloc(size), *before = malloc(size);
     if (!lent || !before) broken("there is no memory for the buffer");
     for (size_t i = 0; i < size; i++) lent[i] = before[i] = (unsigned char)(7 * i + 3);
-    uint64_t answer = kind ? shell_write_wind(lent, room, w[0], w[1], w[2], w[3], w[4], w[5], w[6], sx, x, y, tau, w[7])
-                           : shell_write(lent, room, w[0], w[1], w[2], w[3], w[4], w[5], w[6], sx, x, tau, w[7]);
+    uint64_t answer = kind && has ? shell_write_wind_inner(lent, room, w[0], w[1], w[2], w[3], w[4], w[5], w[6], sx, x, y, tau, w[7], p)
+                      : kind      ? shell_write_wind(lent, room, w[0], w[1], w[2], w[3], w[4], w[5], w[6], sx, x, y, tau, w[7])
+                      : has       ? shell_write_inner(lent, room, w[0], w[1], w[2], w[3], w[4], w[5], w[6], sx, x, tau, w[7], p)
+                                  : shell_write(lent, room, w[0], w[1], w[2], w[3], w[4], w[5], w[6], sx, x, tau, w[7]);
     size_t put = shell_written(answer);
     int kept = !memcmp(lent + put, before + put, size - put);
     if (put) {
@@ -115,6 +171,7 @@ static const struct {
     void (*make)(void);
 } kinds[] = {
     {"calls", calls},
+    {"lines", lines},
     {"writer", writer},
     {"plates", plates},
 };

@@ -20,7 +20,7 @@ use Rattle.ideal.specs.Decision.{cutOf}
 use Rattle.lengths.specs.Short.{shortOf}
 use Rattle.bounds.specs.Sides.{Sides}
 use Rattle.bounds.specs.declared.Limits.{Limits}
-use Rattle.term.specs.TermOf.{termOf}
+use Rattle.term.specs.TermOf.{Lies2, termOf}
 use Rattle.term.specs.declared.Branches.{Branches}
 use Rattle.term.proofs.Terms as terms
 use Rattle.cylinder.specs.WholeCurves.{part1, part2}
@@ -39,17 +39,20 @@ part1-is l a = rw (a .within-two-fifths, a .reaches-six-fifths)
 part2-is : {c : Cut} (l : Limits) → Sides c l → part2Of l ≡ part2 c
 part2-is l a = rw (a .within-quarter, a .within-one, a .within-three-halves)
 
--- the term in the branches that were read is the shell's
-pub term-is : (kind : Stress) (s : Cylinder) (num den : ℕ) (l : Limits) (b : Branches) → Sides (slendernessOf kind s) l → Reads kind l b →
-    termOf kind b (s .«yield_stress») num den (excess s) ≡ termFor kind s (num // den)
-term-is Axial s num den l b a r =
-    terms.axial-is s (num // den) b
-    (record {
+pub axial-lies : {c : Cut} (l : Limits) (b : Branches) → Sides c l → Reads Axial l b → Lies2 c b
+axial-lies l b a r =
+    record {
       part = r .part ∙ part2-is l a;
       long = r .long ∙ a .reaches-three-halves;
       near = r .near ∙ a .within-quarter;
       far = r .far ∙ a .reaches-two;
-    })
+    }
+
+-- the term in the branches that were read is the shell's
+pub term-is : (kind : Stress) (s : Cylinder) (num den : ℕ) (l : Limits) (b : Branches) → Sides (slendernessOf kind s) l → Reads kind l b →
+    termOf kind b (s .«yield_stress») num den (excess s) ≡ termFor kind s (num // den)
+term-is Axial s num den l b a r =
+    terms.axial-is s (num // den) b (axial-lies l b a r)
 term-is Ring s num den l b a r =
     terms.ring-is s (num // den) b
     (record { part = r .part ∙ part1-is l a; long = r .long ∙ a .reaches-three-halves })

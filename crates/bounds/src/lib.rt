@@ -13,6 +13,7 @@ ghost use Rattle.lengths.specs.Short.{shortOf};
 ghost use Rattle.ideal.specs.Decision.{cutOf};
 ghost use Rattle.bounds.specs.Ready.{Ready};
 ghost use Rattle.bounds.specs.Sides.{Sides};
+ghost use Rattle.bounds.specs.Spot.{SpotOf};
 ghost use Rattle.bounds.specs.Stresses.{part1Of, part2Of, partFor, partOf, Reads, SmallParts, Small, lowOf, pairOf, fractionOf};
 use cylinder::Cylinder;
 use cylinder::Stress;
@@ -30,6 +31,13 @@ pub struct Load {
 pub struct Bounds {
     pub low: u64,
     pub high: u64,
+}
+
+// Where S lies for axial stress: from at/grid to (at + 1)/grid, in these branches of the curves.
+pub struct Spot {
+    pub grid: u64,
+    pub at: u64,
+    pub branches: Branches,
 }
 
 // S lies from at/grid to (at + 1)/grid.
@@ -205,7 +213,7 @@ fn branches_for(kind: Stress, l: Limits) -> Branches
 }
 
 // Thousandths over the permitted imperfection.
-fn excess(s: Cylinder) -> u64
+pub fn excess(s: Cylinder) -> u64
     ensures { λ r. ⌜ r ≡ excessOf s ⌝ }
 {
     if 1000 < s.imperfection {
@@ -235,6 +243,21 @@ fn lowest(roots: &[u8; 1024], kind: Stress, s: Cylinder, num: u64, den: u64, p: 
         p.at,
         p.grid,
     )
+}
+
+// Where S lies for axial stress.
+pub fn axial_spot(s: Cylinder) -> Spot
+    requires { ⌜ InLimits s ⌝ }
+    ensures { λ r. ⌜ SpotOf s r ⌝ }
+{
+    let roots = guess::root_table();
+    let p = prepare(&roots, Stress::Axial, s);
+    let k = place(&roots, Stress::Axial, s, p);
+    let l = branches(Stress::Axial, p.short, s, k);
+    let grid = k.grid;
+    let at = k.at;
+    let branches = branches_for(Stress::Axial, l);
+    Spot { grid, at, branches }
 }
 
 // The term of a stress in millionths: 0 for a stress of 0, else less than 2 over its low bound.

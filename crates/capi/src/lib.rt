@@ -1,11 +1,14 @@
-// The calls from C (SCOPE 13, 20.7, 21.5, 22.9, 22.10 and 24.9).
+// The calls from C (SCOPE 13, 20.7, 21.5, 22.9, 22.10, 24.9, 25.8 and 25.9).
 ghost use mathlib.Core.Path.{_≡_};
 ghost use mathlib.Core.List.{List};
 ghost use Prim.Native.Nat.{ℕ};
 ghost use Rattle.answer.specs.Answers.{answerNumber};
 ghost use Rattle.answer.specs.Right.{NumberOfRight};
 ghost use Rattle.record.specs.declared.Ring.the-variants.{Stress, Wind};
-ghost use Rattle.record.specs.Limits.{recordOf};
+ghost use Rattle.record.specs.declared.Inner.the-variants.{Given};
+ghost use Rattle.record.specs.Limits.{recordOf, withInner};
+ghost use Rattle.reading.specs.Answers.{RightLine};
+ghost use Rattle.reading.specs.Answering.{answerTo};
 ghost use Rattle.record.specs.Right.{Right};
 ghost use Rattle.record.specs.Answering.{recordAnswer};
 ghost use Rattle.writer.specs.Writing.{numbered, NumberOfWriting};
@@ -15,6 +18,7 @@ ghost use Rattle.plates.specs.Choosing.{plateJudgement, choosing};
 use plates::Forces;
 use plates::Shell;
 use plates::choose;
+use record::Inner;
 use record::Record;
 use record::Ring;
 use writer::write;
@@ -122,4 +126,65 @@ pub extern "C" fn shell_choose_plate(
     };
     let c = choose(s, f, plates);
     c.number()
+}
+
+// The bytes of one line, and the number of the answer to it. Nothing is changed.
+#[no_mangle]
+pub extern "C" fn shell_judge_line(line: &[u8]) -> u64
+    ensures { λ n. ⌜ n ≡ answerNumber (answerTo (now (line .entry))) ⌝ }
+    ensures { λ n. ⌜ NumberOfRight (RightLine (now (line .entry))) n ⌝ }
+{
+    let given = sheet::answer(line);
+    given.number()
+}
+
+// As shell_write, with a pressure of p inside.
+#[no_mangle]
+pub extern "C" fn shell_write_inner(
+    out: &mut [u8],
+    r: u64,
+    t: u64,
+    l: u64,
+    e: u64,
+    fy: u64,
+    edges: u64,
+    a: u64,
+    sx: u64,
+    sphi: u64,
+    tau: u64,
+    d: u64,
+    p: u64,
+) -> u64
+    ensures { λ n. ⌜ NumberOfWriting (withInner (Given p) (recordOf r t l e fy edges a sx (Stress sphi) tau d)) (now (out .entry)) (now (out .exit)) n ⌝ }
+    ensures { λ n. ⌜ _≡_ {A = ℕ × List ℕ} (n, now (out .exit)) (numbered (writing (withInner (Given p) (recordOf r t l e fy edges a sx (Stress sphi) tau d)) (now (out .entry)))) ⌝ }
+{
+    let bare = Record::of(r, t, l, e, fy, edges, a, sx, Ring::Stress(sphi), tau, d);
+    let put = write(out, bare.under(Inner::Given(p)));
+    put.number()
+}
+
+// As shell_write_wind, with a pressure of p inside.
+#[no_mangle]
+pub extern "C" fn shell_write_wind_inner(
+    out: &mut [u8],
+    r: u64,
+    t: u64,
+    l: u64,
+    e: u64,
+    fy: u64,
+    edges: u64,
+    a: u64,
+    sx: u64,
+    w: u64,
+    v: u64,
+    tau: u64,
+    d: u64,
+    p: u64,
+) -> u64
+    ensures { λ n. ⌜ NumberOfWriting (withInner (Given p) (recordOf r t l e fy edges a sx (Wind w v) tau d)) (now (out .entry)) (now (out .exit)) n ⌝ }
+    ensures { λ n. ⌜ _≡_ {A = ℕ × List ℕ} (n, now (out .exit)) (numbered (writing (withInner (Given p) (recordOf r t l e fy edges a sx (Wind w v) tau d)) (now (out .entry)))) ⌝ }
+{
+    let bare = Record::of(r, t, l, e, fy, edges, a, sx, Ring::Wind(w, v), tau, d);
+    let put = write(out, bare.under(Inner::Given(p)));
+    put.number()
 }

@@ -37,7 +37,7 @@ pub record ReadBack (rule : List ℕ → Answer) (sheet out : List ℕ) (r : Out
 
 pub record Demand3 (rule : List ℕ → Answer) (sheet out : List ℕ) (r : Outcome) (out′ : List ℕ) : Type 0 where
   pub run : Run rule sheet out r out′
-  -- the answer to a line is right, and its verdict says so of the exact sum
+  -- the answer to a line is right, and its verdict means what is laid down of the line
   pub right : (l : List ℕ) → RightLine l (rule l)
   pub verdict-means : (l : List ℕ) (j : Judgement) → rule l ≡ Judged j → MeansLine l (j .verdict)
   pub read-back : r .refusal ≡ 0 → ReadBack rule sheet out r out′

@@ -20,9 +20,11 @@ use Rattle.cylinder.proofs.Like.{leb-like}
 use Rattle.answer.specs.Answering.{judgementOf}
 use Rattle.record.specs.declared.Ring.the-variants.{Stress}
 use Rattle.record.specs.declared.Record.{Record}
-use Rattle.record.specs.Limits.{cylinderOf, recordOf}
+use Rattle.record.specs.Limits.{pressureOf, cylinderOf, recordOf}
 use Rattle.record.specs.Right.{ringStress}
-use Rattle.record.specs.Answering.{boundsOf, judgementOfRecord}
+use Rattle.record.specs.Unpressed.{unpressedBounds}
+use Rattle.record.specs.Answering.{judgementOfRecord}
+use Rattle.record.proofs.Pressure.{plain-bounds}
 use Rattle.plates.specs.declared.Shell.{Shell}
 use Rattle.plates.specs.declared.Forces.{Forces}
 use Rattle.plates.specs.Plates.{wallOf, stressOf}
@@ -107,16 +109,18 @@ module _ (s : Cylinder) (m : ℕ) (pos : 0 < m) where
 
 -- ---- plates
 
--- the judgement for whole stresses is the judge's
-pub whole-judged : (c : Record) → judgementBy (cylinderOf (c .wall)) (whole (c .group .axial)) (whole (ringStress (cylinderOf (c .wall)) (c .group .ring))) (whole (c .group .shear)) ≡ judgementOfRecord c
-unfolding judgementBy boundsOf
-whole-judged c = refl
+-- the judgement for whole stresses is the judge's, of a record without pressure
+pub whole-judged : (c : Record) → pressureOf (c .inner) ≡ 0 → judgementBy (cylinderOf (c .wall)) (whole (c .group .axial)) (whole (ringStress (cylinderOf (c .wall)) (c .group .ring))) (whole (c .group .shear)) ≡ judgementOfRecord c
+unfolding judgementBy unpressedBounds
+whole-judged c none = sym (ap (λ (p : Pair). judgementOf (p .low) (p .high)) (plain-bounds c none))
 
 -- and so a plate on which 100,000 f/t is a whole number for each force is judged as the line with these stresses
 pub whole-plate : (s : Shell) (f : Forces) (t σx σφ τ : ℕ) → 0 < t → 100000 * f .axial ≡ σx * t → 100000 * f .ring ≡ σφ * t → 100000 * f .shear ≡ τ * t →
     plateJudgement s f t ≡ judgementOfRecord (recordOf (s .radius) t (s .length) (s .modulus) (s .«yield_stress») (s .edges) (s .imperfection) σx (Stress σφ) τ 0)
-unfolding judgementBy boundsOf
-whole-plate s f t σx σφ τ pos ex ey ez = ap (λ (p : Pair). judgementOf (p .low) (p .high)) (same ∙ sum-same C t pos 0 (whole σx) (whole σφ) (whole τ))
+unfolding judgementBy
+whole-plate s f t σx σφ τ pos ex ey ez =
+    ap (λ (p : Pair). judgementOf (p .low) (p .high)) (same ∙ sum-same C t pos 0 (whole σx) (whole σφ) (whole τ))
+    ∙ whole-judged (recordOf (s .radius) t (s .length) (s .modulus) (s .«yield_stress») (s .edges) (s .imperfection) σx (Stress σφ) τ 0) refl
   where
     C : Cylinder
     C = cylinderOf (wallOf s t)

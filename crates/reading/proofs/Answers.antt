@@ -17,7 +17,8 @@ use Rattle.answer.specs.declared.Judgement.{Judgement}
 use Rattle.record.specs.declared.Record.{Record}
 use Rattle.record.specs.Right.{Right}
 use Rattle.record.specs.Answering.{recordAnswer}
-use Rattle.record.proofs.Right.{record-right, refusal-range, verdict-means}
+use Rattle.answer.specs.Answering.{Bounded}
+use Rattle.record.proofs.Right.{record-right, right-bounded, refusal-range, verdict-means}
 use Rattle.reading.specs.declared.Form.{Form}
 use Rattle.reading.specs.declared.Form.the-variants as Form
 use Rattle.reading.specs.Text.{Spells}
@@ -94,9 +95,15 @@ line-means l _ (too-long h) j e = absurd (let z : _≡_ {A = ℕ} 0 1 = cc in om
 line-means l _ (not-form h none) j e = absurd (let z : _≡_ {A = ℕ} 0 1 = cc in omega arith)
 line-means l _ (of-record c a h is right) j e = (c, (is, verdict-means c j (subst (Right c) e right)))
 
--- ---- the number of a refusal is at most 13
+-- ---- the number of a refusal is at most 16
 
-pub line-refusal : (l : List ℕ) (a : Answer) → RightLine l a → (n : ℕ) → a ≡ Refused n → n ≤ 13
+pub line-refusal : (l : List ℕ) (a : Answer) → RightLine l a → (n : ℕ) → a ≡ Refused n → n ≤ 16
 line-refusal l _ (too-long h) n e = let z : _≡_ {A = ℕ} 4 n = cc in omega arith
 line-refusal l _ (not-form h none) n e = let z : _≡_ {A = ℕ} 5 n = cc in omega arith
 line-refusal l _ (of-record c a h is right) n e = refusal-range c n (subst (Right c) e right) .1
+
+-- L and U of an answer to a line fit its number
+pub line-bounded : (l : List ℕ) (a : Answer) → RightLine l a → Bounded a
+line-bounded l _ (too-long h) = tt
+line-bounded l _ (not-form h none) = tt
+line-bounded l _ (of-record c a h is right) = right-bounded c a right

@@ -16,12 +16,14 @@ use Rattle.format.proofs.Formats.{Format, Kinds, Always, EndsWord, format-numbe
 use Rattle.record.specs.declared.Ring.{Ring}
 use Rattle.record.specs.declared.Ring.the-variants.{Stress, Wind}
 use Rattle.record.specs.declared.Group.{Group}
+use Rattle.record.specs.declared.Inner.{Inner}
+use Rattle.record.specs.declared.Inner.the-variants as Inner
 use Rattle.record.specs.declared.Record.{Record}
 use Rattle.record.specs.Limits.{withShortfall}
 use Rattle.reading.specs.declared.Form.{Form}
 use Rattle.reading.specs.declared.Form.the-variants.{Read, Refused}
-use Rattle.reading.specs.Text.{sevenText, ringText, groupText, shellText, text, textWithoutShortfall, SmallNumber, SmallRing, SmallGroup, Small, Spells}
-use Rattle.reading.specs.Reading.{Shown, wallIn, windIn, groupIn, recordIn, spaced, shortfall, shown, wind, ring, group, line, formOf}
+use Rattle.reading.specs.Text.{sevenText, ringText, groupText, innerText, shellText, text, textWithoutShortfall, SmallNumber, SmallRing, SmallGroup, SmallInner, Small, Spells}
+use Rattle.reading.specs.Reading.{Shown, wallIn, windIn, groupIn, recordIn, spaced, shortfall, shown, wind, ring, group, pressure, inner, line, formOf}
 
 -- ---- the parts
 
@@ -106,44 +108,55 @@ format-group =
     (format-sequence format-ring (format-closed (ascii ")") (λ rest. refl) format-spaced) (λ b rest small follows. refl))
     (λ b rest small follows. refl)))
 
+-- nothing, or a pressure after a space
+format-inner : Format SmallInner (λ rest. Always rest × (pressure rest ≡ nothing)) innerText inner
+unfolding inner pressure
+format-inner = format-optional Inner.Given Inner.Missing kinds tt refl (format-as (λ p h. h) (λ p h. h) (λ rest follows. follows) (λ p. simp append-assoc) (format-closed (ascii ")") (λ rest. refl) (format-before (ascii " (inner ") format-number)))
+  where
+    kinds : Kinds Inner.Given (λ (u : Unit {0}). Inner.Missing)
+    kinds (Inner.Given p) = inl (p, refl)
+    kinds Inner.Missing = inr (tt, refl)
+
 -- ---- the line
 
-abbrev SmallLine : Shown × Group → Type 0
-SmallLine p = SmallShown (p .0) × SmallGroup (p .1)
+abbrev SmallLine : Shown × (Group × Inner) → Type 0
+SmallLine p = SmallShown (p .0) × (SmallGroup (p .1 .0) × SmallInner (p .1 .1))
 
-abbrev lineText : Shown × Group → List ℕ
-lineText p = shellText (shownText (p .0)) (p .1)
+abbrev lineText : Shown × (Group × Inner) → List ℕ
+lineText p = shellText (shownText (p .0)) (p .1 .0) (p .1 .1)
 
 format-line : Format SmallLine Always lineText line
-unfolding line changed sequence fixed startsWith number upTo numberOf plainStart
+unfolding line pressure changed sequence fixed startsWith number upTo numberOf plainStart
 format-line =
     format-as (λ p h. h) (λ p h. h) (λ rest follows. follows) (λ p. simp append-assoc)
-    (format-sequence (format-before (ascii "(shell ") format-shown) (format-closed (ascii ")") (λ rest. tt) format-group) (λ b rest small follows. (refl, refl)))
+    (format-sequence (format-before (ascii "(shell ") format-shown)
+    (format-closed (ascii ")") (λ rest. (tt, refl)) (format-sequence format-group format-inner (λ b rest small follows. tt)))
+    (λ b rest small follows. (refl, refl)))
 
 -- the numbers of a record, with such a shortfall shown
 abbrev numbers : Record → Numeral → Shown
 numbers c d = (c .wall .radius, (c .wall .thickness, (c .wall .length, (c .wall .modulus, (c .wall .«yield_stress», (c .wall .edges, (c .wall .imperfection, d)))))))
 
 module _ (l : List ℕ) where
-  abbrev Shows : Shown × Group → Type 0
+  abbrev Shows : Shown × (Group × Inner) → Type 0
   Shows p = SmallLine p × (l ≡ lineText p)
 
   -- a line spells the record of what it shows
-  spells-shown : (p : Shown × Group) → Shows p → Spells l (recordIn p)
+  spells-shown : (p : Shown × (Group × Inner)) → Shows p → Spells l (recordIn p)
   unfolding Spells text textWithoutShortfall Small
-  spells-shown ((r, (t, (n, (E, (fy, (edges, (a, Value d))))))), g) ((s, s′), is) =
-      (((s .0, s .1 .0, s .1 .1 .0, s .1 .1 .1 .0, s .1 .1 .1 .1 .0, s .1 .1 .1 .1 .1 .0, s .1 .1 .1 .1 .1 .1 .0, s .1 .1 .1 .1 .1 .1 .1), s′), inl (is ∙ simp append-assoc))
-  spells-shown ((r, (t, (n, (E, (fy, (edges, (a, Missing))))))), g) ((s, s′), is) =
-      (((s .0, s .1 .0, s .1 .1 .0, s .1 .1 .1 .0, s .1 .1 .1 .1 .0, s .1 .1 .1 .1 .1 .0, s .1 .1 .1 .1 .1 .1 .0, lit< tt), s′), inr (refl, is ∙ simp (append-assoc, append-nil)))
+  spells-shown ((r, (t, (n, (E, (fy, (edges, (a, Value d))))))), (g, i)) ((s, (s′, s″)), is) =
+      (((s .0, s .1 .0, s .1 .1 .0, s .1 .1 .1 .0, s .1 .1 .1 .1 .0, s .1 .1 .1 .1 .1 .0, s .1 .1 .1 .1 .1 .1 .0, s .1 .1 .1 .1 .1 .1 .1), s′, s″), inl (is ∙ ap (λ (x : List ℕ). shellText x g i) (sym (append-assoc (sevenText (wallIn (r, (t, (n, (E, (fy, (edges, (a, Value d))))))))) (ascii " ") (decimal d)))))
+  spells-shown ((r, (t, (n, (E, (fy, (edges, (a, Missing))))))), (g, i)) ((s, (s′, s″)), is) =
+      (((s .0, s .1 .0, s .1 .1 .0, s .1 .1 .1 .0, s .1 .1 .1 .1 .0, s .1 .1 .1 .1 .1 .0, s .1 .1 .1 .1 .1 .1 .0, lit< tt), s′, s″), inr (refl, is ∙ ap (λ (x : List ℕ). shellText x g i) (append-nil (sevenText (wallIn (r, (t, (n, (E, (fy, (edges, (a, Missing))))))))))))
 
   -- and where it spells a record, it shows what means it
-  shows-spelt : (c : Record) → Spells l c → (p : Shown × Group) × (Shows p × (recordIn p ≡ c))
+  shows-spelt : (c : Record) → Spells l c → (p : Shown × (Group × Inner)) × (Shows p × (recordIn p ≡ c))
   unfolding Spells text textWithoutShortfall Small
-  shows-spelt c (((r, t, n, E, fy, edges, a, d), s′), inl is) =
-      ((numbers c (Value (c .wall .shortfall)), c .group), ((((r, (t, (n, (E, (fy, (edges, (a, d))))))), s′), is ∙ simp append-assoc), refl))
-  shows-spelt c (((r, t, n, E, fy, edges, a, d), s′), inr (none, is)) = (
-    (numbers c Missing, c .group),
-    ((((r, (t, (n, (E, (fy, (edges, (a, tt))))))), s′), is ∙ simp (append-assoc, append-nil)), λ i. withShortfall (sym none i) c),
+  shows-spelt c (((r, t, n, E, fy, edges, a, d), s′, s″), inl is) =
+      ((numbers c (Value (c .wall .shortfall)), (c .group, c .inner)), ((((r, (t, (n, (E, (fy, (edges, (a, d))))))), (s′, s″)), is ∙ ap (λ (x : List ℕ). shellText x (c .group) (c .inner)) (append-assoc (sevenText (c .wall)) (ascii " ") (decimal (c .wall .shortfall)))), refl))
+  shows-spelt c (((r, t, n, E, fy, edges, a, d), s′, s″), inr (none, is)) = (
+    (numbers c Missing, (c .group, c .inner)),
+    ((((r, (t, (n, (E, (fy, (edges, (a, tt))))))), (s′, s″)), is ∙ ap (λ (x : List ℕ). shellText x (c .group) (c .inner)) (sym (append-nil (sevenText (c .wall))))), λ i. withShortfall (sym none i) c),
   )
 
 -- the form of a line: either it spells a record and is read as it, or it spells none and is refused by 5

@@ -9,9 +9,11 @@ use Rattle.text.specs.Bytes.{ascii, decimal}
 use Rattle.text.proofs.Laws.{decimal-length}
 use Rattle.record.specs.declared.Ring.{Ring}
 use Rattle.record.specs.declared.Ring.the-variants.{Stress, Wind}
+use Rattle.record.specs.declared.Inner.{Inner}
+use Rattle.record.specs.declared.Inner.the-variants as Inner
 use Rattle.record.specs.declared.Record.{Record}
 use Rattle.record.specs.Answering.{recordAnswer}
-use Rattle.reading.specs.Text.{SmallNumber, SmallRing, ringText, text, textWithoutShortfall, Small, Spells}
+use Rattle.reading.specs.Text.{SmallNumber, SmallRing, ringText, text, textWithoutShortfall, Small, Spells, innerText, SmallInner}
 use Rattle.answer.specs.declared.Answer.{Answer}
 use Rattle.reading.specs.Reading.{formOf}
 use Rattle.record.specs.Right.{Right}
@@ -40,19 +42,23 @@ ring-short : (r : Ring) → SmallRing r → length (ringText r) ≤ 22
 ring-short (Stress σφ) h = omega (arith, digits σφ h)
 ring-short (Wind w v) (h, h′) = simp length-append (omega (arith, digits w h, digits v h′))
 
+inner-short : (i : Inner) → SmallInner i → length (innerText i) ≤ 16
+inner-short Inner.Missing h = omega arith
+inner-short (Inner.Given p) h = simp length-append (omega (arith, digits p h))
+
 module _ (c : Record) where
-  pub text-short : Small c → length (text c) ≤ 119
+  -- a line is the longest with seven digits in each number, and then over 128 bytes
+  pub text-short : Small c → length (text c) ≤ 135
   unfolding text Small
-  text-short ((r, t, l, E, fy, edges, a, d), (σx, ring, τ)) =
-      simp length-append (omega (arith, digits _ r, digits _ t, digits _ l, digits _ E, digits _ fy, digits _ edges, digits _ a, digits _ d, digits _ σx, ring-short (c .group .ring) ring, digits _ τ))
+  text-short ((r, t, l, E, fy, edges, a, d), (σx, ring, τ), p) =
+      simp length-append (omega (arith, digits _ r, digits _ t, digits _ l, digits _ E, digits _ fy, digits _ edges, digits _ a, digits _ d, digits _ σx, ring-short (c .group .ring) ring, digits _ τ, inner-short (c .inner) p))
 
-  pub text-without-short : Small c → length (textWithoutShortfall c) ≤ 111
-  unfolding textWithoutShortfall Small
-  text-without-short ((r, t, l, E, fy, edges, a, d), (σx, ring, τ)) =
-      simp length-append (omega (arith, digits _ r, digits _ t, digits _ l, digits _ E, digits _ fy, digits _ edges, digits _ a, digits _ σx, ring-short (c .group .ring) ring, digits _ τ))
+  pub text-without-shorter : length (textWithoutShortfall c) ≤ length (text c)
+  unfolding text textWithoutShortfall
+  text-without-shorter = simp length-append (omega arith)
 
-  -- SCOPE 20.9: a line with seven numbers, and the same line with 0 as the eighth, have the same answer
-  module _ (small : Small c) (zero : c .wall .shortfall ≡ 0) where
+  -- SCOPE 20.9: a line with seven numbers, and the same line with 0 as the eighth, have the same answer, unless 4 refuses the longer one
+  module _ (small : Small c) (zero : c .wall .shortfall ≡ 0) (most : length (text c) ≤ 128) where
     lacks : Spells (textWithoutShortfall c) c
     unfolding Spells
     lacks = (small, inr (zero, refl))
@@ -61,14 +67,14 @@ module _ (c : Record) where
     unfolding Spells
     full = (small, inl refl)
 
-    short : (length (textWithoutShortfall c) ≤ 128) × (length (text c) ≤ 128)
-    short = (omega (arith, text-without-short small), omega (arith, text-short small))
+    short : length (textWithoutShortfall c) ≤ 128
+    short = omega (arith, text-without-shorter, most)
 
     pub without-shortfall : answerTo (textWithoutShortfall c) ≡ answerTo (text c)
-    without-shortfall = same-record (textWithoutShortfall c) (text c) c (short .0) (short .1) lacks full
+    without-shortfall = same-record (textWithoutShortfall c) (text c) c short most lacks full
 
     pub without-shortfall-right : (a : Answer) → RightLine (textWithoutShortfall c) a ↔ RightLine (text c) a
     without-shortfall-right a = (
-      λ r. same-record-right (textWithoutShortfall c) (text c) c (short .0) (short .1) lacks full a r,
-      λ r. same-record-right (text c) (textWithoutShortfall c) c (short .1) (short .0) full lacks a r,
+      λ r. same-record-right (textWithoutShortfall c) (text c) c short most lacks full a r,
+      λ r. same-record-right (text c) (textWithoutShortfall c) c most short full lacks a r,
     )

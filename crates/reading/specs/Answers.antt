@@ -1,4 +1,4 @@
--- SCOPE 9.5, 9.12, 9.13, 10.4 and 10.5: what is laid down of the answer to a line.
+-- SCOPE 9.5, 9.12, 9.13, 10.4, 10.5 and 25.6: what is laid down of the answer to a line.
 use Prim.Native.Nat.{ℕ, _≤_, _<_}
 use mathlib.Core.List.{List}
 use lib.ListN.{length}
@@ -6,7 +6,7 @@ use Rattle.answer.specs.declared.Verdict.{Verdict}
 use Rattle.answer.specs.declared.Answer.{Answer}
 use Rattle.answer.specs.declared.Answer.the-variants.{Refused}
 use Rattle.record.specs.declared.Record.{Record}
-use Rattle.record.specs.Right.{RecordOver, Right, Means}
+use Rattle.record.specs.Right.{Right, MeansFor}
 use Rattle.reading.specs.Text.{Spells}
 
 -- a line has at most so many bytes
@@ -21,4 +21,4 @@ pub data RightLine (l : List ℕ) : Answer → Type 0 where
 
 -- what a verdict on the line l says of the record that it spells
 abbrev pub MeansLine : List ℕ → Verdict → Type 0
-MeansLine l v = (c : Record) × (Spells l c × Means (RecordOver c) v)
+MeansLine l v = (c : Record) × (Spells l c × MeansFor c v)

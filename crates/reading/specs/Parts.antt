@@ -4,6 +4,9 @@ use Rattle.format.specs.Places.{Part, part, refused}
 use Rattle.record.specs.declared.Wall.{Wall}
 use Rattle.record.specs.declared.Ring.{Ring}
 use Rattle.record.specs.declared.Group.{Group}
+use Rattle.record.specs.declared.Inner.{Inner}
+use Rattle.reading.specs.declared.InnerAt.{InnerAt}
+use Rattle.reading.specs.declared.InnerAt.the-variants as InnerAt
 use Rattle.reading.specs.declared.WallAt.{WallAt}
 use Rattle.reading.specs.declared.WallAt.the-variants as WallAt
 use Rattle.reading.specs.declared.RingAt.{RingAt}
@@ -22,3 +25,7 @@ ringPart (RingAt.Refused n) = refused n
 abbrev pub groupPart : GroupAt → Part Group
 groupPart (GroupAt.Read g next) = part g next
 groupPart (GroupAt.Refused n) = refused n
+
+abbrev pub innerPart : InnerAt → Part Inner
+innerPart (InnerAt.Read i next) = part i next
+innerPart (InnerAt.Refused n) = refused n

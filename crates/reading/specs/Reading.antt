@@ -9,6 +9,8 @@ use Rattle.record.specs.declared.Wall.{Wall}
 use Rattle.record.specs.declared.Ring.{Ring}
 use Rattle.record.specs.declared.Ring.the-variants.{Stress, Wind}
 use Rattle.record.specs.declared.Group.{Group}
+use Rattle.record.specs.declared.Inner.{Inner}
+use Rattle.record.specs.declared.Inner.the-variants as Inner
 use Rattle.record.specs.declared.Record.{Record}
 use Rattle.reading.specs.declared.Form.{Form}
 use Rattle.reading.specs.declared.Form.the-variants.{Read, Refused}
@@ -43,8 +45,8 @@ windIn p = Wind (p .0) (p .1)
 abbrev pub groupIn : ℕ × (Ring × ℕ) → Group
 groupIn p = record { axial = p .0; ring = p .1 .0; shear = p .1 .1 }
 
-abbrev pub recordIn : Shown × Group → Record
-recordIn p = record { wall = wallIn (p .0); group = p .1 }
+abbrev pub recordIn : Shown × (Group × Inner) → Record
+recordIn p = record { wall = wallIn (p .0); group = p .1 .0; inner = p .1 .1 }
 
 -- ---- the readers
 
@@ -71,8 +73,16 @@ ring = oneOf Stress windIn spaced wind
 unfoldable pub group : Reader Group
 group = changed groupIn (sequence (before (ascii " (stress ") number) (sequence ring (closed spaced (ascii ")"))))
 
-unfoldable pub line : Reader (Shown × Group)
-line = sequence (before (ascii "(shell ") shown) (closed group (ascii ")"))
+-- p of (inner p), after a space
+unfoldable pub pressure : Reader ℕ
+pressure = closed (before (ascii " (inner ") number) (ascii ")")
+
+-- (inner p) after a space, or no bytes
+unfoldable pub inner : Reader Inner
+inner = optional Inner.Given Inner.Missing pressure
+
+unfoldable pub line : Reader (Shown × (Group × Inner))
+line = sequence (before (ascii "(shell ") shown) (closed (sequence group inner) (ascii ")"))
 
 unfoldable pub formOf : List ℕ → Form
 formOf l = whole (λ p. Read (recordIn p)) (Refused 5) (line l)

@@ -1,13 +1,15 @@
--- SCOPE 7.4 to 7.6, 20.1, 20.2 and 22.1: the lines that spell a record.
+-- SCOPE 7.4 to 7.6, 20.1, 20.2, 22.1 and 25.1: the lines that spell a record.
 use Prim.Native.Nat.{ℕ, _<_}
 use mathlib.Core.Path.{_≡_}
 use mathlib.Core.Logic.{_⊎_}
-use mathlib.Core.List.{List, _++_}
+use mathlib.Core.List.{List, [], _++_}
 use Rattle.text.specs.Bytes.{ascii, decimal}
 use Rattle.record.specs.declared.Wall.{Wall}
 use Rattle.record.specs.declared.Ring.{Ring}
 use Rattle.record.specs.declared.Ring.the-variants.{Stress, Wind}
 use Rattle.record.specs.declared.Group.{Group}
+use Rattle.record.specs.declared.Inner.{Inner}
+use Rattle.record.specs.declared.Inner.the-variants as Inner
 use Rattle.record.specs.declared.Record.{Record}
 
 -- r t l E fy edges a: one space between items, numbers in decimal without leading zeros
@@ -34,17 +36,22 @@ ringText (Wind w v) = ascii "(wind " ++ decimal w ++ ascii " " ++ decimal v ++ a
 abbrev pub groupText : Group → List ℕ
 groupText g = ascii "(stress " ++ decimal (g .axial) ++ ascii " " ++ ringText (g .ring) ++ ascii " " ++ decimal (g .shear) ++ ascii ")"
 
--- (shell NUMBERS GROUP)
-abbrev pub shellText : List ℕ → Group → List ℕ
-shellText numbers g = ascii "(shell " ++ numbers ++ ascii " " ++ groupText g ++ ascii ")"
+-- nothing, or (inner p) after a space
+abbrev pub innerText : Inner → List ℕ
+innerText Inner.Missing = []
+innerText (Inner.Given p) = ascii " (inner " ++ decimal p ++ ascii ")"
 
--- (shell r t l E fy edges a d GROUP)
+-- (shell NUMBERS GROUP), and INNER before the last bracket, with its own space
+abbrev pub shellText : List ℕ → Group → Inner → List ℕ
+shellText numbers g i = ascii "(shell " ++ numbers ++ ascii " " ++ groupText g ++ innerText i ++ ascii ")"
+
+-- (shell r t l E fy edges a d GROUP), with INNER
 unfoldable pub text : Record → List ℕ
-text c = shellText (wallText (c .wall)) (c .group)
+text c = shellText (wallText (c .wall)) (c .group) (c .inner)
 
--- (shell r t l E fy edges a GROUP)
+-- (shell r t l E fy edges a GROUP), with INNER
 unfoldable pub textWithoutShortfall : Record → List ℕ
-textWithoutShortfall c = shellText (sevenText (c .wall)) (c .group)
+textWithoutShortfall c = shellText (sevenText (c .wall)) (c .group) (c .inner)
 
 -- ---- each number has at most 7 digits
 
@@ -69,8 +76,12 @@ SmallRing (Wind w v) = SmallNumber w × SmallNumber v
 abbrev pub SmallGroup : Group → Type 0
 SmallGroup g = SmallNumber (g .axial) × SmallRing (g .ring) × SmallNumber (g .shear)
 
+abbrev pub SmallInner : Inner → Type 0
+SmallInner Inner.Missing = Unit {0}
+SmallInner (Inner.Given p) = SmallNumber p
+
 unfoldable pub Small : Record → Type 0
-Small c = SmallWall (c .wall) × SmallGroup (c .group)
+Small c = SmallWall (c .wall) × SmallGroup (c .group) × SmallInner (c .inner)
 
 -- the line l spells the record c, whose numbers have at most 7 digits: it is the text of c or, where d is 0, the text without d
 unfoldable pub Spells : List ℕ → Record → Type 0

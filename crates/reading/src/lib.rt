@@ -5,14 +5,15 @@ use format::fixed_at;
 use format::number_after;
 use format::number_at;
 use record::Group;
+use record::Inner;
 use record::Record;
 use record::Ring;
 use record::Wall;
 ghost use mathlib.Core.Path.{_≡_};
 ghost use Rattle.format.specs.Readers.{changed};
 ghost use Rattle.format.specs.Places.{Answers, numberPart};
-ghost use Rattle.reading.specs.Reading.{orZero, wallIn, windIn, spaced, shortfall, shown, wind, ring, group, formOf};
-ghost use Rattle.reading.specs.Parts.{wallPart, ringPart, groupPart};
+ghost use Rattle.reading.specs.Reading.{orZero, wallIn, windIn, spaced, shortfall, shown, wind, ring, group, pressure, inner, formOf};
+ghost use Rattle.reading.specs.Parts.{wallPart, ringPart, groupPart, innerPart};
 
 // What a line is: one that spells a record, or the line's refusal.
 pub enum Form {
@@ -33,6 +34,11 @@ enum RingAt {
 
 enum GroupAt {
     Read(Group, usize),
+    Refused(u64),
+}
+
+enum InnerAt {
+    Read(Inner, usize),
     Refused(u64),
 }
 
@@ -143,6 +149,32 @@ fn group_at(line: &[u8], at: usize) -> GroupAt
     GroupAt::Read(group, at)
 }
 
+// p of (inner p), after a space
+fn pressure_at(line: &[u8], at: usize) -> NumberAt
+    ensures { λ r. ⌜ Answers pressure (now (line .entry)) at (numberPart r) ⌝ }
+{
+    let NumberAt::Read(p, at) = number_after(line, at, b" (inner ") else {
+        return NumberAt::Refused(5);
+    };
+    let FixedAt::Read(at) = fixed_at(line, at, b")") else {
+        return NumberAt::Refused(5);
+    };
+    NumberAt::Read(p, at)
+}
+
+// (inner p) after a space, or no bytes
+fn inner_at(line: &[u8], at: usize) -> InnerAt
+    ensures { λ r. ⌜ Answers inner (now (line .entry)) at (innerPart r) ⌝ }
+{
+    if line.len() < at {
+        return InnerAt::Refused(5);
+    }
+    let NumberAt::Read(p, next) = pressure_at(line, at) else {
+        return InnerAt::Read(Inner::Missing, at);
+    };
+    InnerAt::Read(Inner::Given(p), next)
+}
+
 // The record that a line spells, or the line's refusal.
 pub fn read(line: &[u8]) -> Form
     ensures { λ r. ⌜ r ≡ formOf (now (line .entry)) ⌝ }
@@ -156,11 +188,14 @@ pub fn read(line: &[u8]) -> Form
     let GroupAt::Read(group, at) = group_at(line, at) else {
         return Form::Refused(5);
     };
+    let InnerAt::Read(inner, at) = inner_at(line, at) else {
+        return Form::Refused(5);
+    };
     let FixedAt::Read(at) = fixed_at(line, at, b")") else {
         return Form::Refused(5);
     };
     if at != line.len() {
         return Form::Refused(5);
     }
-    Form::Read(Record { wall, group })
+    Form::Read(Record { wall, group, inner })
 }

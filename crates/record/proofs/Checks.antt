@@ -88,4 +88,4 @@ cylinder-within c (r, (e, (d, (w, (l, (t, u)))))) =
 
 -- no check of a record has the number 0
 pub above-none : (c : Record) → Every (λ m. 0 < m) (numbers (checks c))
-above-none c = (lit< tt, (lit< tt, (lit< tt, (lit< tt, (lit< tt, (lit< tt, (lit< tt, tt)))))))
+above-none c = (lit< tt, (lit< tt, (lit< tt, (lit< tt, (lit< tt, (lit< tt, (lit< tt, (lit< tt, tt))))))))

@@ -4,3 +4,4 @@ pub mod Right
 pub mod Trial
 pub mod Shortfall
 pub mod Wind
+pub mod Pressure

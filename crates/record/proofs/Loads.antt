@@ -6,7 +6,9 @@ use native.Mathlib.Omega.{arith}
 use borrow.Author.Tests.{leb-true}
 use Rattle.cylinder.specs.declared.Cylinder.{Cylinder}
 use Rattle.cylinder.specs.Fraction.{Fraction, whole, _//_}
-use Rattle.cylinder.specs.Search.{Pair, sumBounds}
+use Rattle.cylinder.specs.Search.{Pair}
+use Rattle.pressure.specs.WholeGain.{lineBounds}
+use Rattle.line_bounds.specs.Places.{Whole}
 use Rattle.cylinder.specs.InLimits.{InLimits}
 use Rattle.bounds.specs.declared.Load.{Load}
 use Rattle.bounds.specs.Stresses.{Small, fractionOf}
@@ -31,10 +33,13 @@ load-small l (n, d) h = (omega arith, omega arith)
 load-whole : {x : ℕ} (l : Load) → (l .num ≡ x) × (l .den ≡ 1) → fractionOf l ≡ whole x
 load-whole l (n, d) = λ i. n i // d i
 
-pub bounds-are : (s t : Cylinder) (X Y Z : Load) (x y z : ℕ) (low high : ℕ) → s ≡ t → (X .num ≡ x) × (X .den ≡ 1) → (Y .num ≡ y) × (Y .den ≡ 1) → (Z .num ≡ z) × (Z .den ≡ 1) →
-    low ≡ sumBounds 0 s (fractionOf X) (fractionOf Y) (fractionOf Z) .low → high ≡ sumBounds 0 s (fractionOf X) (fractionOf Y) (fractionOf Z) .high →
-    judgementOf low high ≡ judgementOf (sumBounds 0 t (whole x) (whole y) (whole z) .low) (sumBounds 0 t (whole x) (whole y) (whole z) .high)
-bounds-are s t X Y Z x y z low high e ex ey ez l h = λ i. judgementOf ((l ∙ ap (λ (p : Pair). p .low) same) i) ((h ∙ ap (λ (p : Pair). p .high) same) i)
+pub load-whole-range : {x : ℕ} (l : Load) → (l .num ≡ x) × (l .den ≡ 1) → x ≤ 700000 → Whole l
+load-whole-range l (n, d) h = (omega (arith, n, h), d)
+
+pub bounds-are : (s t : Cylinder) (p p′ : ℕ) (X Y Z : Load) (x y z : ℕ) (low high : ℕ) → s ≡ t → p ≡ p′ → (X .num ≡ x) × (X .den ≡ 1) → (Y .num ≡ y) × (Y .den ≡ 1) → (Z .num ≡ z) × (Z .den ≡ 1) →
+    low ≡ lineBounds s p (s .imperfection) (fractionOf X) (fractionOf Y) (fractionOf Z) .low → high ≡ lineBounds s p (s .imperfection) (fractionOf X) (fractionOf Y) (fractionOf Z) .high →
+    judgementOf low high ≡ judgementOf (lineBounds t p′ (t .imperfection) (whole x) (whole y) (whole z) .low) (lineBounds t p′ (t .imperfection) (whole x) (whole y) (whole z) .high)
+bounds-are s t p p′ X Y Z x y z low high e f ex ey ez l h = λ i. judgementOf ((l ∙ ap (λ (p : Pair). p .low) same) i) ((h ∙ ap (λ (p : Pair). p .high) same) i)
   where
-    same : sumBounds 0 s (fractionOf X) (fractionOf Y) (fractionOf Z) ≡ sumBounds 0 t (whole x) (whole y) (whole z)
-    same = λ i. sumBounds 0 (e i) (load-whole X ex i) (load-whole Y ey i) (load-whole Z ez i)
+    same : lineBounds s p (s .imperfection) (fractionOf X) (fractionOf Y) (fractionOf Z) ≡ lineBounds t p′ (t .imperfection) (whole x) (whole y) (whole z)
+    same = λ i. lineBounds (e i) (f i) (e i .imperfection) (load-whole X ex i) (load-whole Y ey i) (load-whole Z ez i)

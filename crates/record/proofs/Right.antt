@@ -3,14 +3,18 @@
 use mathlib.Core.Path.{_≡_, refl, sym, ap, _∙_}
 use mathlib.Core.List.{List, [], _∷_}
 use Prim.Native.Nat.{ℕ, _+_, _≤_, _<_}
+use native.Mathlib.Nat.{lt-of-not-le}
+use native.Mathlib.Decide.{decLe}
 use native.Mathlib.Omega.{arith}
 use mathlib.Core.Bool.{Bool, true, false}
-use lib.Dec.{ltb, lit≤}
-use borrow.Author.Tests.{ltb-true, ltb-false}
+use mathlib.Core.Logic.{_⊎_, inl, inr, ⊎-elim}
+use lib.Dec.{ltb, lit≤, lit<}
+use borrow.Author.Tests.{leb-true, ltb-true, ltb-false}
 use Rattle.cylinder.specs.Fraction.{whole}
 use Rattle.cylinder.specs.Exact.{AtMost, AtLeast, Encloses, Close}
-use Rattle.cylinder.specs.Search.{sumBounds}
-use Rattle.cylinder.proofs.SumBounds.{sum-bounds-within}
+use Rattle.cylinder.specs.Resistance.{q}
+use Rattle.pressure.specs.GainTest.{Doubt}
+use Rattle.pressure.proofs.Lines.{line-down, line-bounds-within}
 use Rattle.cylinder.proofs.Verdict
 use Rattle.answer.specs.declared.Verdict.{Verdict}
 use Rattle.answer.specs.declared.Verdict.the-variants.{Holds, Fails, Open}
@@ -25,8 +29,8 @@ use Rattle.answer.proofs.Checks.{Among, among-every, broken-passed}
 use Rattle.answer.proofs.Right
 use Rattle.answer.proofs.Verdicts.{verdict-holds, verdict-fails, verdict-open, holds-verdict, fails-verdict}
 use Rattle.record.specs.declared.Record.{Record}
-use Rattle.record.specs.Limits.{checks, cylinderOf}
-use Rattle.record.specs.Right.{ringStress, RecordOver, BoundsOf, Bounds, Right, Means}
+use Rattle.record.specs.Limits.{pressureOf, checks, cylinderOf}
+use Rattle.record.specs.Right.{ringStress, RecordOver, BoundsOf, Bounds, Right, Means, InDoubt, MeansFor}
 use Rattle.record.specs.Answering.{boundsOf, judgementOfRecord, recordAnswer}
 use Rattle.record.proofs.Checks.{cylinder-within}
 
@@ -34,40 +38,42 @@ pub bounds-right : (c : Record) → AllPassed (checks c) → Bounds c (judgement
 unfolding boundsOf
 bounds-right c all =
     let s = cylinderOf (c .wall) in
-    let b = sum-bounds-within 0 (lit≤ tt) s (cylinder-within c all) (whole (c .group .axial)) (whole (ringStress s (c .group .ring))) (whole (c .group .shear)) in
-    record { encloses = b .0; close = b .1 }
+    let few = leb-true (pressureOf (c .inner)) 1000000 (all .1 .1 .1 .1 .1 .1 .1 .0) in
+    line-bounds-within s (cylinder-within c all) (pressureOf (c .inner)) few (whole (c .group .axial)) (whole (ringStress s (c .group .ring))) (whole (c .group .shear))
+    (lit< tt) (lit< tt) (lit< tt)
+
+pub record-down : (c : Record) → Verdict.Downward (RecordOver c)
+record-down c = line-down _ _ _ _ _ _
 
 pub record-right : (c : Record) → Right c (recordAnswer c)
 unfolding recordAnswer
 record-right c = Right.answer-by-right (checks c) (Bounds c) (judgementOfRecord c) refl (bounds-right c)
 
 module _ (c : Record) where
-  -- SCOPE 11.6, 20.7 and 22.7: no other refusal than 6 to 11 and 13
-  pub meets : (n : ℕ) → Right c (Refused n) → Among n (6 ∷ 7 ∷ 11 ∷ 8 ∷ 9 ∷ 10 ∷ 13 ∷ [])
+  -- SCOPE 11.6, 20.7, 22.7 and 25.1: no other refusal than 6 to 11, 13 and 16
+  pub meets : (n : ℕ) → Right c (Refused n) → Among n (6 ∷ 7 ∷ 11 ∷ 8 ∷ 9 ∷ 10 ∷ 13 ∷ 16 ∷ [])
   meets n r = Right.refused-among (checks c) (Bounds c) n r
 
-  pub refusal-range : (n : ℕ) → Right c (Refused n) → (6 ≤ n) × (n ≤ 13)
-  refusal-range n r = among-every (λ m. (6 ≤ m) × (m ≤ 13)) (6 ∷ 7 ∷ 11 ∷ 8 ∷ 9 ∷ 10 ∷ 13 ∷ []) n (meets n r)
-      ((lit≤ tt, lit≤ tt), ((lit≤ tt, lit≤ tt), ((lit≤ tt, lit≤ tt), ((lit≤ tt, lit≤ tt), ((lit≤ tt, lit≤ tt), ((lit≤ tt, lit≤ tt), ((lit≤ tt, lit≤ tt), tt)))))))
+  pub refusal-range : (n : ℕ) → Right c (Refused n) → (6 ≤ n) × (n ≤ 16)
+  refusal-range n r = among-every (λ m. (6 ≤ m) × (m ≤ 16)) (6 ∷ 7 ∷ 11 ∷ 8 ∷ 9 ∷ 10 ∷ 13 ∷ 16 ∷ []) n (meets n r)
+      ((lit≤ tt, lit≤ tt), ((lit≤ tt, lit≤ tt), ((lit≤ tt, lit≤ tt), ((lit≤ tt, lit≤ tt), ((lit≤ tt, lit≤ tt), ((lit≤ tt, lit≤ tt), ((lit≤ tt, lit≤ tt), ((lit≤ tt, lit≤ tt), tt))))))))
 
   -- L and U fit the number of an answer
   pub right-bounded : (a : Answer) → Right c a → Bounded a
   right-bounded a r = Right.right-bounded (checks c) (Bounds c) (λ j b. (b .encloses .L-most, b .encloses .U-most)) a r
 
--- ---- what a verdict says of an exact sum, whatever the checks and the sum are
+-- ---- what a verdict says of an exact sum, whatever the checks and the sum are, if L and U enclose it
 
+module _ (ks : List Check) (Exceeds : ℕ → ℕ → Type 0) (down : Verdict.Downward Exceeds) (j : Judgement) (Claim : Judgement → Type 0)
+    (around : Claim j → Encloses Exceeds (j .low) (j .high)) where
+  pub sum-holds : RightBy ks Claim (Judged j) → j .verdict ≡ Holds → AtMost Exceeds 1 1
+  sum-holds (judged _ all b v) h = Verdict.holds-only (around b) down (verdict-holds (j .low) (j .high) (sym v ∙ h))
+
+  pub sum-fails : RightBy ks Claim (Judged j) → j .verdict ≡ Fails → Exceeds 1 1
+  sum-fails (judged _ all b v) h = Verdict.fails-only (around b) (verdict-fails (j .low) (j .high) (sym v ∙ h))
+
+-- and, if they are close, of one that is open
 module _ (ks : List Check) (Exceeds : ℕ → ℕ → Type 0) (down : Verdict.Downward Exceeds) (j : Judgement) where
-  pub sum-holds : RightBy ks (BoundsOf Exceeds) (Judged j) → j .verdict ≡ Holds → AtMost Exceeds 1 1
-  sum-holds (judged _ all b v) h = Verdict.holds-only (b .encloses) down (verdict-holds (j .low) (j .high) (sym v ∙ h))
-
-  pub sum-fails : RightBy ks (BoundsOf Exceeds) (Judged j) → j .verdict ≡ Fails → Exceeds 1 1
-  sum-fails (judged _ all b v) h = Verdict.fails-only (b .encloses) (verdict-fails (j .low) (j .high) (sym v ∙ h))
-
-  pub sum-near : RightBy ks (BoundsOf Exceeds) (Judged j) → j .verdict ≡ Open → AtLeast Exceeds 9999 10000 × AtMost Exceeds 10002 10000
-  sum-near (judged _ all b v) h =
-      let (over, under) = verdict-open (j .low) (j .high) (sym v ∙ h) in
-      Verdict.open-only (b .encloses) down (b .close) over under
-
   pub sum-band : RightBy ks (BoundsOf Exceeds) (Judged j) → j .verdict ≡ Open → AtLeast Exceeds 99 100 × AtMost Exceeds 101 100
   sum-band (judged _ all b v) h =
       let (over, under) = verdict-open (j .low) (j .high) (sym v ∙ h) in
@@ -77,33 +83,51 @@ module _ (ks : List Check) (Exceeds : ℕ → ℕ → Type 0) (down : Verdict.Do
   sum-means r = go (j .verdict) refl
     where
       go : (v : Verdict) → j .verdict ≡ v → Means Exceeds v
-      go Holds e = sum-holds r e
-      go Fails e = sum-fails r e
+      go Holds e = sum-holds ks Exceeds down j (BoundsOf Exceeds) (λ b. b .encloses) r e
+      go Fails e = sum-fails ks Exceeds down j (BoundsOf Exceeds) (λ b. b .encloses) r e
       go Open e = sum-band r e
 
--- and so of that of a record
+-- of that of a record
 module _ (c : Record) (j : Judgement) where
-  down : Verdict.Downward (RecordOver c)
-  down = Verdict.sum-over-down _ _ _
-
   -- holds only if the exact sum is at most 1
   pub holds-at-most : Right c (Judged j) → j .verdict ≡ Holds → AtMost (RecordOver c) 1 1
-  holds-at-most = sum-holds (checks c) (RecordOver c) down j
+  holds-at-most = sum-holds (checks c) (RecordOver c) (record-down c) j (Bounds c) (λ b. b .encloses)
 
   -- fails only if it is over 1
   pub fails-over : Right c (Judged j) → j .verdict ≡ Fails → RecordOver c 1 1
-  fails-over = sum-fails (checks c) (RecordOver c) down j
+  fails-over = sum-fails (checks c) (RecordOver c) (record-down c) j (Bounds c) (λ b. b .encloses)
 
-  -- open only if it lies from 0.9999 to 1.0002
-  pub open-near : Right c (Judged j) → j .verdict ≡ Open → AtLeast (RecordOver c) 9999 10000 × AtMost (RecordOver c) 10002 10000
-  open-near = sum-near (checks c) (RecordOver c) down j
+  -- open only if it lies from 0.9999 to 1.0002, or the test of the gain is in doubt
+  pub open-near : Right c (Judged j) → j .verdict ≡ Open → (AtLeast (RecordOver c) 9999 10000 × AtMost (RecordOver c) 10002 10000) ⊎ InDoubt c
+  open-near (judged _ all b v) h =
+      let (over, under) = verdict-open (j .low) (j .high) (sym v ∙ h) in
+      elim (decLe (j .high) (j .low + 2)) [
+        | yes le ↦ inl (Verdict.open-only (b .encloses) (record-down c) le over under)
+        | no wide ↦ inr (⊎-elim (λ close. absurd (wide close)) (λ doubt. (doubt, b .undecided (lt-of-not-le wide) under over)) (b .close))
+      ]
 
-  -- and so from 0.99 to 1.01, the band of SCOPE 9.13
-  pub open-band : Right c (Judged j) → j .verdict ≡ Open → AtLeast (RecordOver c) 99 100 × AtMost (RecordOver c) 101 100
-  open-band = sum-band (checks c) (RecordOver c) down j
+  -- and so from 0.99 to 1.01, the band of SCOPE 9.13, but for that doubt
+  pub open-band : Right c (Judged j) → j .verdict ≡ Open → (AtLeast (RecordOver c) 99 100 × AtMost (RecordOver c) 101 100) ⊎ InDoubt c
+  open-band r h =
+      ⊎-elim
+      (λ near. inl (Verdict.at-least-down (RecordOver c) 9999 10000 99 100 (lit< tt) (lit≤ tt) (near .0), Verdict.at-most-up (RecordOver c) (record-down c) 10002 10000 101 100 (lit< tt) (lit< tt) (lit≤ tt) (near .1)))
+      (λ doubt. inr doubt) (open-near r h)
 
-  pub verdict-means : Right c (Judged j) → Means (RecordOver c) (j .verdict)
-  verdict-means = sum-means (checks c) (RecordOver c) down j
+  pub verdict-means : Right c (Judged j) → MeansFor c (j .verdict)
+  verdict-means r = go (j .verdict) refl
+    where
+      go : (v : Verdict) → j .verdict ≡ v → MeansFor c v
+      go Holds e = holds-at-most r e
+      go Fails e = fails-over r e
+      go Open e = open-band r e
+
+-- L and U of a right answer that are not close: the two sides of the test of the gain differ by less than 1/1000
+pub apart-doubt : (c : Record) (j : Judgement) → Right c (Judged j) → j .low + 2 < j .high → Doubt (cylinderOf (c .wall)) (pressureOf (c .inner)) (q (cylinderOf (c .wall)))
+apart-doubt c j (judged _ all b v) far = ⊎-elim (λ close. absurd (omega (arith, close, far))) (λ doubt. doubt) (b .close)
+
+-- without pressure there is no doubt, so L and U are close
+pub close-plain : (c : Record) (j : Judgement) → pressureOf (c .inner) ≡ 0 → Bounds c j → Close (j .low) (j .high)
+close-plain c j none b = ⊎-elim (λ close. close) (λ doubt. absurd (omega (arith, none, doubt .acts .pressed))) (b .close)
 
 -- ---- L and U of two right answers overlap, so a verdict is the only one where the sum is far enough from 1
 
@@ -117,8 +141,8 @@ module _ (c : Record) (i j : Judgement) (I : Bounds c i) (J : Bounds c j) where
           let lt = ltb-true (j .high) (i .low) e in
           absurd (J .encloses .at-most (omega (arith, I .encloses .L-most)) (I .encloses .at-least (j .high) 10000 (omega (arith, lt))))
 
--- where the program's U is at most 9,998, every right answer holds; where its L is at least 10,003, every one fails
-module _ (c : Record) (all : AllPassed (checks c)) (a : Answer) (r : Right c a) where
+-- without pressure: where the program's U is at most 9,998, every right answer holds; where its L is at least 10,003, every one fails
+module _ (c : Record) (none : pressureOf (c .inner) ≡ 0) (all : AllPassed (checks c)) (a : Answer) (r : Right c a) where
   pub only-holds : boundsOf c .high ≤ 9998 → (j : Judgement) × ((a ≡ Judged j) × (j .verdict ≡ Holds))
   only-holds h = go a r
     where
@@ -126,7 +150,7 @@ module _ (c : Record) (all : AllPassed (checks c)) (a : Answer) (r : Right c a) 
       go _ (refused n f) = absurd (broken-passed (checks c) n f all)
       go _ (judged j p b v) =
           let o = overlap c j (judgementOfRecord c) b (bounds-right c all) in
-          (j, (refl, v ∙ holds-verdict (j .low) (j .high) (omega (arith, b .close, o))))
+          (j, (refl, v ∙ holds-verdict (j .low) (j .high) (omega (arith, close-plain c j none b, o))))
 
   pub only-fails : 10003 ≤ boundsOf c .low → (j : Judgement) × ((a ≡ Judged j) × (j .verdict ≡ Fails))
   only-fails h = go a r
@@ -135,4 +159,4 @@ module _ (c : Record) (all : AllPassed (checks c)) (a : Answer) (r : Right c a) 
       go _ (refused n f) = absurd (broken-passed (checks c) n f all)
       go _ (judged j p b v) =
           let o = overlap c (judgementOfRecord c) j (bounds-right c all) b in
-          (j, (refl, v ∙ fails-verdict (j .low) (j .high) (omega (arith, b .close, o)) (omega (arith, o, h))))
+          (j, (refl, v ∙ fails-verdict (j .low) (j .high) (omega (arith, close-plain c j none b, o)) (omega (arith, o, h))))

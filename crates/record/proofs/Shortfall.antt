@@ -20,8 +20,8 @@ use Rattle.answer.specs.Right.{refused, judged}
 use Rattle.answer.specs.Answering.{firstOr, judgementOf}
 use Rattle.record.specs.declared.Wall.{Wall}
 use Rattle.record.specs.declared.Record.{Record}
-use Rattle.record.specs.Limits.{inRange, edgesKnown, shortfallCounts, effectiveWall, ratioBy, wallRatio, lengthRatio, tolerated, windAllowed, checks, cylinderBy, cylinderOf, withShortfall}
-use Rattle.record.specs.Right.{GroupOver, BoundsOf, Right}
+use Rattle.record.specs.Limits.{inRange, edgesKnown, shortfallCounts, effectiveWall, ratioBy, wallRatio, lengthRatio, tolerated, windAllowed, pressureOf, pressureAllowed, checks, cylinderBy, cylinderOf, withShortfall}
+use Rattle.record.specs.Right.{GroupBounds, Right}
 use Rattle.record.specs.Nominal.{nominalRatio, nominalChecks, nominalCylinder, NominalRight, nominalBounds, nominalAnswer}
 use Rattle.record.specs.Answering.{groupBounds, boundsOf, recordAnswer}
 
@@ -50,13 +50,13 @@ module _ (c : Record) (small : c .wall .shortfall ≤ 50) (e : effectiveWall (c 
 
   -- the checks behind 8
   abbrev behind : List Check
-  behind = check 9 (lengthRatio (c .wall)) ∷ check 10 (tolerated (c .wall)) ∷ check 13 (windAllowed (c .group .ring)) ∷ []
+  behind = check 9 (lengthRatio (c .wall)) ∷ check 10 (tolerated (c .wall)) ∷ check 13 (windAllowed (c .group .ring)) ∷ check 16 (pressureAllowed (c .inner)) ∷ []
 
   abbrev From8 : Bool → ℕ → Type 0
   From8 b n = FirstBroken (check 8 b ∷ behind) n
 
   abbrev Claim : Cylinder → Judgement → Type 0
-  Claim s = BoundsOf (GroupOver s (c .group))
+  Claim s = GroupBounds s (pressureOf (c .inner)) (c .group)
 
   fewer : (n : ℕ) → FirstBroken (checks c) n → FirstBroken (nominalChecks c) n
   fewer n (inl x) = inl x
@@ -89,7 +89,7 @@ module _ (c : Record) (small : c .wall .shortfall ≤ 50) (e : effectiveWall (c 
     where
       by : Cylinder → Bool → Bool → Answer
       by s allowed ratio =
-          let b = groupBounds s (c .group) in
+          let b = groupBounds s (pressureOf (c .inner)) (c .group) in
           firstOr Refused (Judged (judgementOf (b .low) (b .high)))
           (check 6 (inRange c) ∷ check 7 (edgesKnown (c .wall)) ∷ check 11 allowed ∷ check 8 ratio ∷ behind)
 

@@ -20,8 +20,9 @@ use Rattle.answer.specs.Answering.{firstOr}
 use Rattle.answer.proofs.Checks.{all-passed}
 use Rattle.record.specs.declared.Ring.{Ring}
 use Rattle.record.specs.declared.Ring.the-variants.{Stress, Wind}
+use Rattle.record.specs.declared.Inner.the-variants.{Missing}
 use Rattle.record.specs.declared.Record.{Record}
-use Rattle.record.specs.Limits.{dimensions, material, ringInRange, edgesKnown, shortfallAllowed, wallRatio, lengthRatio, tolerated, windAllowed, checks, recordOf, cylinderOf}
+use Rattle.record.specs.Limits.{dimensions, material, ringInRange, edgesKnown, shortfallAllowed, wallRatio, lengthRatio, tolerated, windAllowed, pressureOf, pressureAllowed, checks, recordOf, cylinderOf}
 use Rattle.record.specs.Right.{ringStress, asStress, Bounds, Right}
 use Rattle.record.specs.Answering.{boundsOf, judgementOfRecord, recordAnswer, ringStressOf}
 use Rattle.record.proofs.Checks.{cylinder-within}
@@ -54,27 +55,28 @@ abbrev pub thin : ℕ → Record
 thin d = recordOf 4000 400 8000 210000 240 12 1000 0 (Wind 1000 0) 0 d
 
 pub thin-713 : ringStress (cylinderOf (thin 50 .wall)) (Wind 1000 0) ≡ 713
-thin-713 = wind-found (cylinderOf (thin 50 .wall)) (cylinder-within (thin 50) (refl, (refl, (refl, (refl, (refl, (refl, (refl, tt)))))))) 1000 0 712 (lit≤ tt) (lit≤ tt) refl refl
+thin-713 = wind-found (cylinderOf (thin 50 .wall)) (cylinder-within (thin 50) (refl, (refl, (refl, (refl, (refl, (refl, (refl, (refl, tt))))))))) 1000 0 712 (lit≤ tt) (lit≤ tt) refl refl
 
 pub thin-665 : ringStress (cylinderOf (thin 0 .wall)) (Wind 1000 0) ≡ 665
-thin-665 = wind-found (cylinderOf (thin 0 .wall)) (cylinder-within (thin 0) (refl, (refl, (refl, (refl, (refl, (refl, (refl, tt)))))))) 1000 0 664 (lit≤ tt) (lit≤ tt) refl refl
+thin-665 = wind-found (cylinderOf (thin 0 .wall)) (cylinder-within (thin 0) (refl, (refl, (refl, (refl, (refl, (refl, (refl, (refl, tt))))))))) 1000 0 664 (lit≤ tt) (lit≤ tt) refl refl
 
--- SCOPE 22.10: a record with a plain stress is refused by 6 to 11 only
-plain-broken : (c : Record) (σφ n : ℕ) → c .group .ring ≡ Stress σφ → FirstBroken (checks c) n → (6 ≤ n) × (n ≤ 11)
-plain-broken c σφ n plain (inl (f, is)) = (omega (arith, is), omega (arith, is))
-plain-broken c σφ n plain (inr (_, inl (f, is))) = (omega (arith, is), omega (arith, is))
-plain-broken c σφ n plain (inr (_, inr (_, inl (f, is)))) = (omega (arith, is), omega (arith, is))
-plain-broken c σφ n plain (inr (_, inr (_, inr (_, inl (f, is))))) = (omega (arith, is), omega (arith, is))
-plain-broken c σφ n plain (inr (_, inr (_, inr (_, inr (_, inl (f, is)))))) = (omega (arith, is), omega (arith, is))
-plain-broken c σφ n plain (inr (_, inr (_, inr (_, inr (_, inr (_, inl (f, is))))))) = (omega (arith, is), omega (arith, is))
-plain-broken c σφ n plain (inr (_, inr (_, inr (_, inr (_, inr (_, inr (_, inl (f, is)))))))) = absurd (clash (ap windAllowed plain) f)
-plain-broken c σφ n plain (inr (_, inr (_, inr (_, inr (_, inr (_, inr (_, inr (_, none)))))))) = absurd none
+-- SCOPE 22.10: a record with a plain stress and without pressure is refused by 6 to 11 only
+plain-broken : (c : Record) (σφ n : ℕ) → c .group .ring ≡ Stress σφ → c .inner ≡ Missing → FirstBroken (checks c) n → (6 ≤ n) × (n ≤ 11)
+plain-broken c σφ n plain none (inl (f, is)) = (omega (arith, is), omega (arith, is))
+plain-broken c σφ n plain none (inr (_, inl (f, is))) = (omega (arith, is), omega (arith, is))
+plain-broken c σφ n plain none (inr (_, inr (_, inl (f, is)))) = (omega (arith, is), omega (arith, is))
+plain-broken c σφ n plain none (inr (_, inr (_, inr (_, inl (f, is))))) = (omega (arith, is), omega (arith, is))
+plain-broken c σφ n plain none (inr (_, inr (_, inr (_, inr (_, inl (f, is)))))) = (omega (arith, is), omega (arith, is))
+plain-broken c σφ n plain none (inr (_, inr (_, inr (_, inr (_, inr (_, inl (f, is))))))) = (omega (arith, is), omega (arith, is))
+plain-broken c σφ n plain none (inr (_, inr (_, inr (_, inr (_, inr (_, inr (_, inl (f, is)))))))) = absurd (clash (ap windAllowed plain) f)
+plain-broken c σφ n plain none (inr (_, inr (_, inr (_, inr (_, inr (_, inr (_, inr (_, inl (f, is))))))))) = absurd (clash (ap pressureAllowed none) f)
+plain-broken c σφ n plain none (inr (_, inr (_, inr (_, inr (_, inr (_, inr (_, inr (_, inr (_, rest))))))))) = absurd rest
 
-pub plain-refusal : (c : Record) (σφ n : ℕ) → c .group .ring ≡ Stress σφ → Right c (Refused n) → (6 ≤ n) × (n ≤ 11)
-plain-refusal c σφ n plain r = go (Refused n) r refl
+pub plain-refusal : (c : Record) (σφ n : ℕ) → c .group .ring ≡ Stress σφ → c .inner ≡ Missing → Right c (Refused n) → (6 ≤ n) × (n ≤ 11)
+plain-refusal c σφ n plain none r = go (Refused n) r refl
   where
     go : (a : Answer) → Right c a → a ≡ Refused n → (6 ≤ n) × (n ≤ 11)
-    go _ (refused m f) e = let same : m ≡ n = cc in plain-broken c σφ n plain (subst (FirstBroken (checks c)) same f)
+    go _ (refused m f) e = let same : m ≡ n = cc in plain-broken c σφ n plain none (subst (FirstBroken (checks c)) same f)
     go _ (judged j all b v) e = absurd (let z : _≡_ {A = ℕ} 0 1 = cc in omega arith)
 
 -- the answers to a record that passes check 13 are those to the record with the plain stress
@@ -95,6 +97,7 @@ module _ (c : Record) (allowed : windAllowed (c .group .ring) ≡ true) where
           ∷ check 9 (lengthRatio (c .wall))
           ∷ check 10 (tolerated (c .wall))
           ∷ check 13 wind
+          ∷ check 16 (pressureAllowed (c .inner))
           ∷ []
 
   pub wind-right : (a : Answer) → Right c a ↔ Right (asStress c) a

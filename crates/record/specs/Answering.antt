@@ -1,25 +1,28 @@
--- How the program answers a record. Nobody has to believe this: `record-right` (proofs/Right.antt) says that the answer is Right, and `judged-ring`
--- (proofs/Wind.antt) what `ringStressOf` is.
+-- How the program answers a record. Nobody has to believe this: `record-right` (proofs/Right.antt) says that the answer is Right, `judged-ring`
+-- (proofs/Wind.antt) what `ringStressOf` is, and `record-gain` (proofs/Pressure.antt) what `gainOfRecord` means.
 use Prim.Native.Nat.{ℕ}
 use Rattle.cylinder.specs.declared.Cylinder.{Cylinder}
 use Rattle.cylinder.specs.Fraction.{whole}
-use Rattle.cylinder.specs.Search.{Pair, sumBounds}
+use Rattle.cylinder.specs.Search.{Pair}
+use Rattle.pressure.specs.WholeGain.{lineBounds}
+use Rattle.line_bounds.specs.declared.Gain.{Gain}
+use Rattle.line_bounds.specs.declared.Gain.the-variants.{Idle}
+use Rattle.line_bounds.specs.Places.{gainOf}
 use Rattle.answer.specs.declared.Judgement.{Judgement}
 use Rattle.answer.specs.declared.Answer.{Answer}
 use Rattle.answer.specs.declared.Answer.the-variants.{Refused, Judged}
 use Rattle.answer.specs.Answering.{firstOr, judgementOf}
 use Rattle.record.specs.declared.Group.{Group}
 use Rattle.record.specs.declared.Record.{Record}
-use Rattle.record.specs.Limits.{checks, cylinderOf}
+use Rattle.record.specs.Limits.{pressureOf, checks, cylinderOf}
 use Rattle.record.specs.Right.{ringStress}
 
--- L and U of a group on a cylinder, by the one rule of cylinder's Search, and those of a record
-abbrev pub groupBounds : Cylinder → Group → Pair
-groupBounds s g = sumBounds 0 s (whole (g .axial)) (whole (ringStress s (g .ring))) (whole (g .shear))
+-- L and U of a group on a cylinder with a pressure of p inside, by the rule of pressure's WholeGain, and those of a record
+abbrev pub groupBounds : Cylinder → ℕ → Group → Pair
+groupBounds s p g = lineBounds s p (s .imperfection) (whole (g .axial)) (whole (ringStress s (g .ring))) (whole (g .shear))
 
 unfoldable pub boundsOf : Record → Pair
-unfolding sumBounds
-boundsOf c = groupBounds (cylinderOf (c .wall)) (c .group)
+boundsOf c = groupBounds (cylinderOf (c .wall)) (pressureOf (c .inner)) (c .group)
 
 abbrev pub judgementOfRecord : Record → Judgement
 judgementOfRecord c = judgementOf (boundsOf c .low) (boundsOf c .high)
@@ -32,3 +35,7 @@ recordAnswer c = firstOr Refused (Judged (judgementOfRecord c)) (checks c)
 -- the ring stress that a record is judged with, 0 where a check is broken
 unfoldable pub ringStressOf : Record → ℕ
 ringStressOf c = firstOr (λ n. 0) (ringStress (cylinderOf (c .wall)) (c .group .ring)) (checks c)
+
+-- what the pressure does to a record, nothing where a check is broken
+unfoldable pub gainOfRecord : Record → Gain
+gainOfRecord c = firstOr (λ n. Idle) (gainOf (cylinderOf (c .wall)) (pressureOf (c .inner))) (checks c)

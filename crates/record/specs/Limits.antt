@@ -1,4 +1,4 @@
--- SCOPE 2, 10.6 to 10.11, 10.13, 20 and 22: the limits of a record, and its checks in their order.
+-- SCOPE 2, 10.6 to 10.11, 10.13, 10.16, 20, 22 and 25: the limits of a record, and its checks in their order.
 use Prim.Native.Nat.{ℕ, _*_, _-_}
 use mathlib.Core.Bool.{Bool, true, _&&_, _||_}
 use mathlib.Core.List.{List, [], _∷_}
@@ -9,6 +9,8 @@ use Rattle.record.specs.declared.Wall.{Wall}
 use Rattle.record.specs.declared.Ring.{Ring}
 use Rattle.record.specs.declared.Ring.the-variants.{Stress, Wind}
 use Rattle.record.specs.declared.Group.{Group}
+use Rattle.record.specs.declared.Inner.{Inner}
+use Rattle.record.specs.declared.Inner.the-variants.{Missing, Given}
 use Rattle.record.specs.declared.Record.{Record}
 use Rattle.cylinder.specs.declared.Cylinder.{Cylinder}
 
@@ -82,6 +84,15 @@ abbrev pub windAllowed : Ring → Bool
 windAllowed (Stress σφ) = true
 windAllowed (Wind w v) = leb w 10000 && leb v 1
 
+-- ---- the pressure inside the shell: a missing group is a pressure of 0
+abbrev pub pressureOf : Inner → ℕ
+pressureOf Missing = 0
+pressureOf (Given p) = p
+
+-- ---- check 16: p over 1,000,000
+abbrev pub pressureAllowed : Inner → Bool
+pressureAllowed i = leb (pressureOf i) 1000000
+
 -- ---- the checks of a record, in their order
 abbrev pub checks : Record → List Check
 checks c =
@@ -92,9 +103,10 @@ checks c =
     ∷ check 9 (lengthRatio (c .wall))
     ∷ check 10 (tolerated (c .wall))
     ∷ check 13 (windAllowed (c .group .ring))
+    ∷ check 16 (pressureAllowed (c .inner))
     ∷ []
 
--- ---- the parts of a record in the order of the calls from C
+-- ---- the parts of a record in the order of the calls from C, without internal pressure
 abbrev pub recordOf : ℕ → ℕ → ℕ → ℕ → ℕ → ℕ → ℕ → ℕ → Ring → ℕ → ℕ → Record
 recordOf r t l E fy edges a σx ring τ d =
     record {
@@ -110,6 +122,7 @@ recordOf r t l E fy edges a σx ring τ d =
             shortfall = d;
           };
       group = record { axial = σx; ring = ring; shear = τ };
+      inner = Missing;
     }
 
 -- ---- the cylinder of a wall, with a thickness in 200ths of a mm; for a wall that is the effective one
@@ -144,4 +157,9 @@ withShortfall d c =
             shortfall = d;
           };
       group = c .group;
+      inner = c .inner;
     }
+
+-- ---- a record with another pressure inside
+abbrev pub withInner : Inner → Record → Record
+withInner i c = record { wall = c .wall; group = c .group; inner = i }

@@ -4,7 +4,7 @@ use Prim.Native.Nat.{ℕ, _*_}
 use mathlib.Core.Bool.{Bool}
 use mathlib.Core.List.{List, [], _∷_}
 use Rattle.cylinder.specs.declared.Cylinder.{Cylinder}
-use Rattle.cylinder.specs.Search.{Pair, sumBounds}
+use Rattle.cylinder.specs.Search.{Pair}
 use Rattle.answer.specs.declared.Answer.{Answer}
 use Rattle.answer.specs.declared.Answer.the-variants.{Refused, Judged}
 use Rattle.answer.specs.Checks.{Check, check}
@@ -12,8 +12,8 @@ use Rattle.answer.specs.Right.{RightBy}
 use Rattle.answer.specs.Answering.{firstOr, judgementOf}
 use Rattle.record.specs.declared.Wall.{Wall}
 use Rattle.record.specs.declared.Record.{Record}
-use Rattle.record.specs.Limits.{fromTo, inRange, edgesKnown, lengthRatio, tolerated, windAllowed, cylinderBy}
-use Rattle.record.specs.Right.{GroupOver, BoundsOf}
+use Rattle.record.specs.Limits.{fromTo, inRange, edgesKnown, lengthRatio, tolerated, windAllowed, pressureOf, pressureAllowed, cylinderBy}
+use Rattle.record.specs.Right.{GroupBounds}
 use Rattle.record.specs.Answering.{groupBounds}
 
 -- check 8: 20 t ≤ 100 r ≤ 2,500 t
@@ -28,6 +28,7 @@ nominalChecks c =
     ∷ check 9 (lengthRatio (c .wall))
     ∷ check 10 (tolerated (c .wall))
     ∷ check 13 (windAllowed (c .group .ring))
+    ∷ check 16 (pressureAllowed (c .inner))
     ∷ []
 
 -- the wall is t, in 200ths of a mm
@@ -35,12 +36,11 @@ abbrev pub nominalCylinder : Wall → Cylinder
 nominalCylinder w = cylinderBy (2 * w .thickness) w
 
 abbrev pub NominalRight : Record → Answer → Type 0
-NominalRight c = RightBy (nominalChecks c) (BoundsOf (GroupOver (nominalCylinder (c .wall)) (c .group)))
+NominalRight c = RightBy (nominalChecks c) (GroupBounds (nominalCylinder (c .wall)) (pressureOf (c .inner)) (c .group))
 
 -- how the program would answer then, to be compared with `recordAnswer`; what is right does not need it
 unfoldable pub nominalBounds : Record → Pair
-unfolding sumBounds
-nominalBounds c = groupBounds (nominalCylinder (c .wall)) (c .group)
+nominalBounds c = groupBounds (nominalCylinder (c .wall)) (pressureOf (c .inner)) (c .group)
 
 unfoldable pub nominalAnswer : Record → Answer
 unfolding nominalBounds

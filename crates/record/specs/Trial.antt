@@ -9,7 +9,7 @@ use Rattle.answer.specs.declared.Answer.the-variants.{Judged}
 use Rattle.record.specs.declared.Ring.the-variants.{Stress}
 use Rattle.record.specs.declared.Record.{Record}
 use Rattle.record.specs.Limits.{recordOf}
-use Rattle.record.specs.Right.{RecordOver, Right, Means}
+use Rattle.record.specs.Right.{Right, MeansFor}
 
 -- B is 5000 500 10000 210000 240 12 1000, with no shortfall
 abbrev pub B : ℕ → ℕ → ℕ → Record
@@ -20,7 +20,7 @@ abbrev pub B2000 : ℕ → ℕ → ℕ → Record
 B2000 σx σφ τ = recordOf 5000 500 10000 210000 240 12 2000 σx (Stress σφ) τ 0
 
 pub record Row (c : Record) (v : Verdict) : Type 0 where
-  pub meant : Means (RecordOver c) v
+  pub meant : MeansFor c v
   pub answered : (a : Answer) → Right c a → (j : Judgement) × ((a ≡ Judged j) × (j .verdict ≡ v))
 
 pub record TrialRows : Type 0 where

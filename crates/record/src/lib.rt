@@ -5,13 +5,15 @@ ghost use Prim.Native.Nat.{_*_, _≤_};
 ghost use Rattle.answer.specs.Checks.{AllPassed};
 ghost use Rattle.answer.specs.Answering.{refusalBy};
 ghost use Rattle.cylinder.specs.InLimits.{InLimits};
-ghost use Rattle.record.specs.Limits.{fromTo, inRange, dimensions, material, ringInRange, stresses, edgesKnown, effectiveWall, wallRatio, lengthRatio, tolerated, windAllowed, checks, cylinderOf, recordOf};
+ghost use Rattle.line_bounds.specs.Means.{GainMeans};
+ghost use Rattle.record.specs.Limits.{fromTo, inRange, dimensions, material, ringInRange, stresses, edgesKnown, effectiveWall, wallRatio, lengthRatio, tolerated, windAllowed, pressureOf, checks, cylinderOf, recordOf, withInner};
 ghost use Rattle.record.specs.Right.{ringStress, Right};
-ghost use Rattle.record.specs.Answering.{judgementOfRecord, recordAnswer, ringStressOf};
+ghost use Rattle.record.specs.Answering.{judgementOfRecord, recordAnswer, ringStressOf, gainOfRecord};
 use answer::Answer;
 use answer::Judgement;
 use bounds::Load;
 use cylinder::Cylinder;
+use line_bounds::Gain;
 
 // A shell without its load: its wall, material and edges. Each field is any u64.
 pub struct Wall {
@@ -51,10 +53,19 @@ pub struct Group {
     pub shear: u64,
 }
 
+// The pressure inside the shell.
+pub enum Inner {
+    // no group for it in the line
+    Missing,
+    // p, N/m²
+    Given(u64),
+}
+
 // A shell with its load.
 pub struct Record {
     pub wall: Wall,
     pub group: Group,
+    pub inner: Inner,
 }
 
 // Whether x lies from low to high.
@@ -215,6 +226,18 @@ impl Ring {
     }
 }
 
+impl Inner {
+    // p, 0 where the group is missing.
+    fn pressure(self) -> u64
+        ensures { λ r. ⌜ r ≡ pressureOf self ⌝ }
+    {
+        match self {
+            Inner::Missing => 0,
+            Inner::Given(p) => p,
+        }
+    }
+}
+
 impl Group {
     // Whether each stress lies in its range.
     fn has_stresses(self) -> bool
@@ -261,6 +284,8 @@ impl Record {
     pub const SHORTFALL_MOST: u64 = 50;
 
     pub const GUST_MOST: u64 = 10000;
+
+    pub const PRESSURE_MOST: u64 = 1000000;
 
     // an open or vented shell; 0 is a closed one
     pub const VENTED: u64 = 1;
@@ -314,7 +339,8 @@ impl Record {
         let x = load(group.axial);
         let y = load(ring.stress_on(s));
         let z = load(group.shear);
-        let b = bounds::of_sum(s, x, y, z, 0);
+        let inner = self.inner;
+        let b = line_bounds::of_line(s, inner.pressure(), x, y, z);
         Judgement::by_bounds(b.low, b.high)
     }
 
@@ -346,6 +372,10 @@ impl Record {
         if !ring.has_allowed_wind() {
             return 13;
         }
+        let inner = self.inner;
+        if Self::PRESSURE_MOST < inner.pressure() {
+            return 16;
+        }
         0
     }
 
@@ -362,9 +392,23 @@ impl Record {
         ring.stress_on(wall.cylinder())
     }
 
+    // What the pressure does to a record that breaks no check; nothing, where it breaks one.
+    pub fn gain(self) -> Gain
+        ensures { λ r. ⌜ r ≡ gainOfRecord self ⌝ }
+        ensures { λ r. ⌜ (AllPassed (checks self) → GainMeans (cylinderOf (self .wall)) (pressureOf (self .inner)) r) ⌝ }
+    {
+        let wall = self.wall;
+        let inner = self.inner;
+        if 0 < self.refusal() {
+            return Gain::Idle;
+        }
+        line_bounds::gain_under(wall.cylinder(), inner.pressure())
+    }
+
     // The answer to a record: the number of the first check that it breaks, or the judgement.
-    fn answer(self) -> Answer
+    pub fn answer(self) -> Answer
         ensures { λ r. ⌜ r ≡ recordAnswer self ⌝ }
+        ensures { λ r. ⌜ Right self r ⌝ }
     {
         let n = self.refusal();
         if 0 < n {
@@ -400,8 +444,19 @@ impl Record {
             shortfall,
         };
         let group = Group { axial, ring, shear };
-        Record { wall, group }
+        let inner = Inner::Missing;
+        Record { wall, group, inner }
     }
+
+    // The record with another pressure inside.
+    pub fn under(self, inner: Inner) -> Record
+        ensures { λ r. ⌜ r ≡ withInner inner self ⌝ }
+    {
+        let wall = self.wall;
+        let group = self.group;
+        Record { wall, group, inner }
+    }
+
     // The answer to the record of these parts.
     pub fn judge(
         radius: u64,

@@ -8,7 +8,6 @@ use outcome::Outcome;
 use outcome::refusal;
 use reading::Form;
 use reading::read;
-use record::Record;
 use total::put_total;
 ghost use mathlib.Core.Path.{_≡_};
 ghost use mathlib.Core.List.{List};
@@ -36,22 +35,7 @@ pub fn answer(line: &[u8]) -> Answer
     let Form::Read(c) = read(line) else {
         return Answer::Refused(5);
     };
-    let w = c.wall;
-    let g = c.group;
-    let ring = g.ring;
-    Record::judge(
-        w.radius,
-        w.thickness,
-        w.length,
-        w.modulus,
-        w.yield_stress,
-        w.edges,
-        w.imperfection,
-        g.axial,
-        ring,
-        g.shear,
-        w.shortfall,
-    )
+    c.answer()
 }
 
 // The outcome of a sheet that is turned back with the number n.

@@ -5,6 +5,7 @@ use crate::say::say_one;
 use crate::say::say_three;
 use crate::say::say_two;
 use record::Group;
+use record::Inner;
 use record::Record;
 use record::Ring;
 use record::Wall;
@@ -205,11 +206,25 @@ fn say_wind(ok: bool, r: Ring) -> bool {
     }
 }
 
+// 16
+fn say_pressure(ok: bool, inner: Inner) -> bool {
+    match inner {
+        Inner::Missing => ok,
+        Inner::Given(p) => say_two(
+            ok,
+            b"the internal pressure p (N/m2) is %, over %",
+            p,
+            Record::PRESSURE_MOST,
+        ),
+    }
+}
+
 // Why a record is refused by n.
 pub(crate) fn say_check(ok: bool, n: u64, c: Record) -> bool {
     let w = c.wall;
     let g = c.group;
     let ring = g.ring;
+    let inner = c.inner;
     match n {
         6 => say_ranges(ok, w, g),
         7 => say_edges(ok, w.edges),
@@ -218,6 +233,7 @@ pub(crate) fn say_check(ok: bool, n: u64, c: Record) -> bool {
         10 => say_imperfection(ok, w.imperfection),
         11 => say_shortfall(ok, w.shortfall),
         13 => say_wind(ok, ring),
+        16 => say_pressure(ok, inner),
         _ => say(ok, b"it breaks a check that has no words"),
     }
 }

@@ -10,12 +10,14 @@ use crate::say::say_two;
 use answer::Answer;
 use answer::Judgement;
 use answer::Verdict;
+use line_bounds::Gain;
 use lines::after_line;
 use lines::first_line;
 use listing::Counts;
 use reading::Form;
 use reading::read;
 use record::Group;
+use record::Inner;
 use record::Record;
 use record::Ring;
 
@@ -116,6 +118,43 @@ fn say_units(ok: bool, g: Group) -> bool {
     )
 }
 
+// The size of a gain to four digits, by its added part in 10⁻⁸: 1 and 1.2 times that. Divided first, so that nothing overflows.
+fn say_size(ok: bool, added: u64) -> bool {
+    say_decimal(ok, 10000 + added / 25000 * 3 + added % 25000 * 3 / 25000)
+}
+
+// What a pressure above 0 does.
+fn say_gain(ok: bool, g: Gain) -> bool {
+    match g {
+        Gain::Idle => say(ok, b"; the internal pressure does not act"),
+        Gain::Broken => say(ok, b"; the internal pressure acts, and gives no gain"),
+        Gain::Applies(t) => {
+            let ok = say(ok, b"; the internal pressure gives a gain of ");
+            say_size(ok, t)
+        }
+        Gain::Unclear(t) => {
+            let ok = say(
+                ok,
+                b"; it is too near to tell whether the internal pressure gives its gain of ",
+            );
+            say_size(ok, t)
+        }
+    }
+}
+
+// The same of a record; nothing where there is no pressure.
+fn say_inner(ok: bool, c: Record, inner: Inner) -> bool {
+    match inner {
+        Inner::Missing => ok,
+        Inner::Given(p) => {
+            if p == 0 {
+                return ok;
+            }
+            say_gain(ok, c.gain())
+        }
+    }
+}
+
 // The remarks on a record that has a verdict.
 fn say_remarks(ok: bool, line: &[u8]) -> bool {
     let Form::Read(c) = read(line) else {
@@ -123,7 +162,9 @@ fn say_remarks(ok: bool, line: &[u8]) -> bool {
     };
     let g = c.group;
     let ring = g.ring;
+    let inner = c.inner;
     let ok = say_wind(ok, c, ring);
+    let ok = say_inner(ok, c, inner);
     say_units(ok, g)
 }
 

@@ -20,7 +20,7 @@ fn say_name(ok: bool, want: u8) -> bool {
     }
     say_piece(
         ok,
-        b"r%t%l%E%fy%edges%a%d%sx%sphi%tau%w%v",
+        b"r%t%l%E%fy%edges%a%d%sx%sphi%tau%w%v%p",
         (want - 65) as u64,
     )
 }
@@ -34,10 +34,10 @@ fn say_want(ok: bool, want: u8) -> bool {
     say_byte(ok, want)
 }
 
-// What a minus may tell, but before a number of wind, which has no sign.
+// What a minus may tell, but before a number of wind or of pressure, which has no sign.
 fn say_sign(ok: bool, want: u8) -> bool {
     match want {
-        b'L' | b'M' => ok,
+        b'L' | b'M' | b'N' => ok,
         _ => say(ok, b"; compression is positive, and tension is not covered"),
     }
 }

@@ -134,11 +134,24 @@ fn then_ring(line: &[u8], before: Stop) -> Stop {
     scan(line, at, b"(wind L M)")
 }
 
-// Where `line` stops being of the form: with the two parts above this is the whole grammar, and `say_name` in form.rt has the names of A, B and so on.
+// (inner p), which may be left out.
+fn then_inner(line: &[u8], before: Stop) -> Stop {
+    let Stop::Behind(at) = before else {
+        return before;
+    };
+    if item_end(line, at, b' ') == at {
+        return before;
+    }
+    scan(line, at, b" (inner N)")
+}
+
+// Where `line` stops being of the form: with the three parts above this is the whole grammar, and `say_name` in form.rt has the names of A, B and so on.
 pub(crate) fn scan_line(line: &[u8]) -> Stop {
     let stop = scan(line, 0, b"(shell A B C D E F G");
     let stop = then_shortfall(line, stop);
     let stop = then(line, stop, b" (stress I ");
     let stop = then_ring(line, stop);
-    then(line, stop, b" K))")
+    let stop = then(line, stop, b" K)");
+    let stop = then_inner(line, stop);
+    then(line, stop, b")")
 }

@@ -22,3 +22,6 @@ four a b e f g = rw (← e, ← f, ← g) (omega arith)
 
 pub three : (a b : ℕ) {t r u : ℕ} → a * b ≡ r → t ≡ u → a * (b * (t * 1)) ≡ r * u
 three a b e f = rw (← e, ← f) (omega arith)
+
+pub five : (x y a b : ℕ) {t r u : ℕ} → a * b ≡ r → t ≡ u → x * (y * (a * (b * (t * 1)))) ≡ x * y * (r * u)
+five x y a b e f = rw (← e, ← f) (omega arith)

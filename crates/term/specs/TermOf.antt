@@ -42,6 +42,10 @@ factor1 b e = times (curves.reduction1 (partOf (b .part))) (curves.toleranceFact
 abbrev pub factor2 : Branches → ℕ → Factor
 factor2 b e = times (times (curves.reduction2 (partOf (b .part))) (curves.toleranceFactor (b .long) e)) (curves.safety (b .near) (b .far))
 
+-- κ2 with its tolerance, without the partial factor
+abbrev pub reducedOf : Branches → ℕ → Factor
+reducedOf b e = times (curves.reduction2 (partOf (b .part))) (curves.toleranceFactor (b .long) e)
+
 abbrev pub factorOf : Stress → Branches → ℕ → Factor
 factorOf Axial b e = factor2 b e
 factorOf Ring b e = factor1 b e

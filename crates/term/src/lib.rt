@@ -3,12 +3,13 @@
 // partial factor. Numerators and denominators are kept apart, as products of whole numbers, and compared exactly.
 ghost use mathlib.Core.Path.{_≡_};
 ghost use Prim.Native.Nat.{_-_, _*_, _≤_, _<_};
+ghost use lib.ListN.{length};
 ghost use Rattle.wide.specs.Value.{base};
 ghost use Rattle.factors.specs.Product.{prod};
 ghost use Rattle.guess.specs.Roots.{RootTable};
 ghost use Rattle.cylinder.specs.WholeCurves.{reduction1, reduction2, toleranceFactor, safety};
 ghost use Rattle.cylinder.specs.Search.{most};
-ghost use Rattle.term.specs.TermOf.{SmallParts, partOf, factor1, factor2, factorOf, termOf, powerOf};
+ghost use Rattle.term.specs.TermOf.{SmallParts, partOf, factor1, factor2, reducedOf, factorOf, termOf, powerOf};
 use cylinder::Stress;
 use millionths::Power;
 
@@ -193,6 +194,26 @@ fn second_below(b: Branches, e: u64, k: u64, q: u64) -> [u64; 4]
     let r = kappa2_below(part, k, q);
     let t = tolerance_below(b.long, e, k, q);
     [r.a, r.b, t, safety_below(b.near, b.far, k, q)]
+}
+
+// x y times κ2 with its tolerance at the slenderness k/q: the factors of its numerator.
+pub fn reduced_above(b: Branches, e: u64, k: u64, q: u64, x: u64, y: u64) -> [u64; 5]
+    requires { ⌜ (e ≤ 1000) × (k < base) × (q ≤ 200000000) ⌝ }
+    ensures { λ r. ⌜ (prod r ≡ x * y * reducedOf b e .num k q) × (length r ≡ 5) ⌝ }
+{
+    let part = b.part;
+    let r = kappa2_above(part, k, q);
+    [x, y, r.a, r.b, tolerance_above(b.long, e, k, q)]
+}
+
+// x y times it: those of its denominator.
+pub fn reduced_below(b: Branches, e: u64, k: u64, q: u64, x: u64, y: u64) -> [u64; 5]
+    requires { ⌜ (e ≤ 1000) × (k < base) × (q ≤ 200000000) ⌝ }
+    ensures { λ r. ⌜ (prod r ≡ x * y * reducedOf b e .den k q) × (length r ≡ 5) ⌝ }
+{
+    let part = b.part;
+    let r = kappa2_below(part, k, q);
+    [x, y, r.a, r.b, tolerance_below(b.long, e, k, q)]
 }
 
 // The factors of the resistance: their numerators.

@@ -24,27 +24,29 @@ use Rattle.record.specs.declared.Wall.{Wall}
 use Rattle.record.specs.declared.Ring.{Ring}
 use Rattle.record.specs.declared.Ring.the-variants.{Stress, Wind}
 use Rattle.record.specs.declared.Group.{Group}
+use Rattle.record.specs.declared.Inner.{Inner}
+use Rattle.record.specs.declared.Inner.the-variants as Inner
 use Rattle.record.specs.declared.Record.{Record}
-use Rattle.record.specs.Limits.{ringInRange, windAllowed, checks}
+use Rattle.record.specs.Limits.{ringInRange, windAllowed, checks, pressureOf, pressureAllowed}
 use Rattle.record.specs.Right.{Right}
 use Rattle.record.specs.Answering.{recordAnswer}
 use Rattle.answer.specs.Answering.{refusalBy}
 use Rattle.record.proofs.Checks.{ranges, above-none}
 use Rattle.record.proofs.Wind.{wind-limits}
 use Rattle.record.proofs.Right.{refusal-range}
-use Rattle.reading.specs.Text.{wallText, ringText, groupText, SmallRing, Small, text, textWithoutShortfall, Spells}
+use Rattle.record.proofs.Pressure.{plain-range}
+use Rattle.reading.specs.Text.{wallText, ringText, groupText, SmallRing, Small, text, textWithoutShortfall, Spells, innerText, SmallInner}
 use Rattle.reading.specs.Answers.{RightLine, too-long, not-form, of-record}
 use Rattle.reading.specs.Reading.{formOf}
 use Rattle.reading.specs.Answering.{answerTo}
 use Rattle.reading.specs.declared.Form.the-variants as Form
 use Rattle.reading.proofs.Inverse.{read-text, spells-once}
 use Rattle.reading.proofs.Answers.{answer-read}
-use Rattle.reading.proofs.Shortfall.{text-short}
 use Rattle.writer.specs.declared.Written.{Written}
 use Rattle.writer.specs.declared.Written.the-variants.{Put, Refused}
 use Rattle.writer.specs.Writing.{writerChecks, lineOf, startingWith, Writes, refuses, puts, writtenNumber}
 use Rattle.writer.specs.Writer.{writing}
-use Rattle.writer.proofs.Puts.{wall-length, wind-length, group-length, line-length}
+use Rattle.writer.proofs.Puts.{wall-length, wind-length, group-length, line-length, pressure-length}
 
 -- ---- the answer and the buffer are as laid down
 
@@ -74,9 +76,13 @@ ring-small : (r : Ring) → ringInRange r ≡ true → windAllowed r ≡ true �
 ring-small (Stress σφ) h g = omega (arith, leb-true σφ 700000 h)
 ring-small (Wind w v) h g = let (most, vented) = wind-limits w v g in (omega (arith, most), omega (arith, vented))
 
+inner-small : (i : Inner) → pressureAllowed i ≡ true → SmallInner i
+inner-small Inner.Missing h = tt
+inner-small (Inner.Given p) h = omega (arith, leb-true p 1000000 h)
+
 pub passed-small : (c : Record) → AllPassed (checks c) → Small c
 unfolding Small
-passed-small c (r, (e, (d, (w, (l, (t, (g, u))))))) =
+passed-small c (r, (e, (d, (w, (l, (t, (g, (p, u)))))))) =
     let rs = ranges c r in (
       (
         omega (arith, rs .radius .most),
@@ -89,13 +95,14 @@ passed-small c (r, (e, (d, (w, (l, (t, (g, u))))))) =
         omega (arith, leb-true (c .wall .shortfall) 50 d),
       ),
       (omega (arith, rs .axial), ring-small (c .group .ring) (rs .ring) g, omega (arith, rs .shear)),
+      inner-small (c .inner) p,
     )
 
 -- ---- the line has no newline within it
 
-fixed-plain : (plain (ascii " ") ≡ true) × (plain (ascii ")") ≡ true) × (plain (ascii "(stress ") ≡ true) × (plain (ascii "(shell ") ≡ true) × (plain (ascii "(wind ") ≡ true)
+fixed-plain : (plain (ascii " ") ≡ true) × (plain (ascii ")") ≡ true) × (plain (ascii "(stress ") ≡ true) × (plain (ascii "(shell ") ≡ true) × (plain (ascii "(wind ") ≡ true) × (plain (ascii " (inner ") ≡ true) × (plain [] ≡ true)
 unfolding plain
-fixed-plain = (refl, refl, refl, refl, refl)
+fixed-plain = (refl, refl, refl, refl, refl, refl, refl)
 
 next-plain : (xs : List ℕ) (n : ℕ) → plain xs ≡ true → plain (xs ++ ascii " " ++ decimal n) ≡ true
 next-plain xs n h = plain-append (xs ++ ascii " ") (decimal n) (plain-append xs (ascii " ") h (fixed-plain .0)) (decimal-plain n)
@@ -112,14 +119,24 @@ group-plain g =
     let start = plain-append (ascii "(stress ") (decimal (g .axial)) (fixed-plain .2) (decimal-plain (g .axial)) in
     plain-append _ (ascii ")") (next-plain _ _ (plain-append _ (ringText (g .ring)) (plain-append _ (ascii " ") start (fixed-plain .0)) (ring-plain (g .ring)))) (fixed-plain .1)
 
+inner-plain : (i : Inner) → plain (innerText i) ≡ true
+inner-plain Inner.Missing = fixed-plain .6
+inner-plain (Inner.Given p) = plain-append _ (ascii ")") (plain-append (ascii " (inner ") (decimal p) (fixed-plain .5) (decimal-plain p)) (fixed-plain .1)
+
 text-plain : (c : Record) → plain (text c) ≡ true
 unfolding text
 text-plain c =
     plain-append _ (ascii ")")
+    (plain-append _ (innerText (c .inner))
     (plain-append _ (groupText (c .group)) (plain-append _ (ascii " ") (plain-append (ascii "(shell ") (wallText (c .wall)) (fixed-plain .3) (wall-plain (c .wall))) (fixed-plain .0)) (group-plain (c .group)))
+    (inner-plain (c .inner)))
     (fixed-plain .1)
 
--- ---- the length of the ring's text
+-- ---- the lengths of the texts of pressure and ring
+
+inner-short : (i : Inner) → pressureAllowed i ≡ true → length (innerText i) ≤ 16
+inner-short Inner.Missing h = omega arith
+inner-short (Inner.Given p) h = omega (arith, pressure-length p, decimal-length 6 p (omega (arith, leb-true p 1000000 h)))
 
 ring-short : (r : Ring) → ringInRange r ≡ true → windAllowed r ≡ true → length (ringText r) ≤ 14
 ring-short (Stress σφ) h g = omega (arith, decimal-length 5 σφ (omega (arith, leb-true σφ 700000 h)))
@@ -138,9 +155,9 @@ module _ (c : Record) (all : AllPassed (checks c)) where
   unfolding Spells
   line-spells = (passed-small c all, inl refl)
 
-  -- has at most 87 bytes, so that 128 are enough
-  pub line-short : length (lineOf c) ≤ 87
-  line-short =
+  -- has at most 73 bytes besides those of ring and pressure
+  pub line-most : length (lineOf c) ≤ 73 + length (ringText (c .group .ring)) + length (innerText (c .inner))
+  line-most =
       let rs = ranges c (all .0) in
       omega (
         arith,
@@ -156,9 +173,19 @@ module _ (c : Record) (all : AllPassed (checks c)) where
         decimal-length 3 (c .wall .imperfection) (omega (arith, leb-true (c .wall .imperfection) 2000 (all .1 .1 .1 .1 .1 .0))),
         decimal-length 1 (c .wall .shortfall) (omega (arith, leb-true (c .wall .shortfall) 50 (all .1 .1 .0))),
         decimal-length 5 (c .group .axial) (omega (arith, rs .axial)),
-        ring-short (c .group .ring) (rs .ring) (all .1 .1 .1 .1 .1 .1 .0),
         decimal-length 5 (c .group .shear) (omega (arith, rs .shear)),
       )
+
+  -- so 103 at most, and 128 are enough; 87 without pressure
+  pub line-short : length (lineOf c) ≤ 103
+  line-short = omega (arith, line-most, ring-short (c .group .ring) (ranges c (all .0) .ring) (all .1 .1 .1 .1 .1 .1 .0), inner-short (c .inner) (all .1 .1 .1 .1 .1 .1 .1 .0))
+
+  pub missing-short : c .inner ≡ Inner.Missing → length (lineOf c) ≤ 87
+  missing-short e =
+      omega (arith, line-most, ring-short (c .group .ring) (ranges c (all .0) .ring) (all .1 .1 .1 .1 .1 .1 .0), ap (λ (i : Inner). length (innerText i)) e)
+
+  text-most : length (text c) ≤ 128
+  text-most = omega (arith, line-short, length-append (text c) (10 ∷ []))
 
   -- reads as the record
   pub written-reads : formOf (text c) ≡ Form.Read c
@@ -166,14 +193,14 @@ module _ (c : Record) (all : AllPassed (checks c)) where
 
   -- and has the judge's answer to it
   pub written-answer : answerTo (text c) ≡ recordAnswer c
-  written-answer = sym (answer-read (text c) (omega (arith, text-short c (passed-small c all))) (formOf (text c)) refl c written-reads (recordAnswer c) refl)
+  written-answer = sym (answer-read (text c) text-most (formOf (text c)) refl c written-reads (recordAnswer c) refl)
 
   -- and so are the right answers to it those to the record
   pub written-right : (a : Answer) → RightLine (text c) a ↔ Right c a
-  written-right a = (λ r. to a r, λ r. of-record c a (omega (arith, text-short c (passed-small c all))) line-spells r)
+  written-right a = (λ r. to a r, λ r. of-record c a text-most line-spells r)
     where
       to : (a : Answer) → RightLine (text c) a → Right c a
-      to _ (too-long h) = absurd (omega (arith, h, text-short c (passed-small c all)))
+      to _ (too-long h) = absurd (omega (arith, h, text-most))
       to _ (not-form h none) = absurd (none c line-spells)
       to _ (of-record d a h is right) = subst (λ (x : Record). Right x a) (spells-once (text c) d c is line-spells) right
 
@@ -182,8 +209,8 @@ module _ (c : Record) (all : AllPassed (checks c)) where
   unfolding writing
   line-put out room = all-passed (λ n. (Refused n, out)) _ (writerChecks (length out) c) (le-leb 128 (length out) room, all)
 
-  -- and has 50 bytes at least besides the ring's
-  line-least : 50 + length (ringText (c .group .ring)) ≤ length (lineOf c)
+  -- and has 50 bytes at least besides those of ring and pressure
+  pub line-least : 50 + length (ringText (c .group .ring)) + length (innerText (c .inner)) ≤ length (lineOf c)
   line-least =
       let rs = ranges c (all .0) in
       omega (
@@ -203,26 +230,38 @@ module _ (c : Record) (all : AllPassed (checks c)) where
         decimal-some (c .group .shear),
       )
 
-  -- so 51 bytes at least, and with wind 60
+  -- so 51 bytes at least, with wind 60, and 10 more with pressure
   pub line-long : 51 ≤ length (lineOf c)
   line-long = omega (arith, line-least, ring-some (c .group .ring))
 
   pub wind-long : (w v : ℕ) → c .group .ring ≡ Wind w v → 60 ≤ length (lineOf c)
   wind-long w v e = omega (arith, line-least, wind-length w v, decimal-some w, decimal-some v, ap (λ (r : Ring). length (ringText r)) e)
 
+  pub inner-long : (p : ℕ) → c .inner ≡ Inner.Given p → 10 ≤ length (innerText (c .inner))
+  inner-long p e = omega (arith, pressure-length p, decimal-some p, ap (λ (i : Inner). length (innerText i)) e)
+
   -- it is one line
   pub line-one : lines (lineOf c) ≡ text c ∷ []
   unfolding lines
   line-one = subst (λ (l : List ℕ). lines l ≡ text c ∷ []) (append-nil (lineOf c)) (lines-ended (text c) [] (text-plain c))
 
--- SCOPE 21.5: an answer that is laid down so has the number of a refusal, 13 at most, or of bytes put, 51 at least
-pub written-apart : (c : Record) (out out′ : List ℕ) (w : Written) → Writes c out out′ w → ((n : ℕ) → w ≡ Refused n → writtenNumber w ≤ 13) × ((n : ℕ) → w ≡ Put n → 51 ≤ writtenNumber w)
+-- SCOPE 21.5: an answer that is laid down so has the number of a refusal, 16 at most, or of bytes put, 51 at least
+pub written-apart : (c : Record) (out out′ : List ℕ) (w : Written) → Writes c out out′ w → ((n : ℕ) → w ≡ Refused n → writtenNumber w ≤ 16) × ((n : ℕ) → w ≡ Put n → 51 ≤ writtenNumber w)
 written-apart c out out′ _ (refuses m f e) = (λ n q. below m f, λ n q. absurd (let z : _≡_ {A = ℕ} 0 1 = cc in omega arith))
   where
-    below : (m : ℕ) → FirstBroken (writerChecks (length out) c) m → m ≤ 13
+    below : (m : ℕ) → FirstBroken (writerChecks (length out) c) m → m ≤ 16
     below m (inl (f, is)) = omega (arith, is)
     below m (inr (t, f)) = omega (arith, refusal-range c m (refused m f) .1)
 written-apart c out out′ _ (puts (t, all) e) = (λ n q. absurd (let z : _≡_ {A = ℕ} 0 1 = cc in omega arith), λ n q. omega (arith, line-long c all))
+
+-- without pressure a refusal is 13 at most
+pub missing-apart : (c : Record) (out out′ : List ℕ) (w : Written) → c .inner ≡ Inner.Missing → Writes c out out′ w → (n : ℕ) → w ≡ Refused n → writtenNumber w ≤ 13
+missing-apart c out out′ _ none (refuses m f e) n q = below m f
+  where
+    below : (m : ℕ) → FirstBroken (writerChecks (length out) c) m → m ≤ 13
+    below m (inl (f, is)) = omega (arith, is)
+    below m (inr (t, f)) = plain-range c (ap pressureOf none) m (refused m f)
+missing-apart c out out′ _ none (puts all e) n q = absurd (let z : _≡_ {A = ℕ} 0 1 = cc in omega arith)
 
 -- ---- a line with a verdict, written again: the same bytes and a newline, apart from a d that it lacks
 

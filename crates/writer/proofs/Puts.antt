@@ -9,9 +9,9 @@ use Rattle.text.proofs.Laws.{Wrote}
 use Rattle.record.specs.declared.Wall.{Wall}
 use Rattle.record.specs.declared.Group.{Group}
 use Rattle.record.specs.declared.Record.{Record}
-use Rattle.reading.specs.Text.{wallText, ringText, groupText, text}
+use Rattle.reading.specs.Text.{wallText, ringText, groupText, innerText, text}
 use Rattle.writer.specs.Writing.{lineOf}
-use Rattle.writer.specs.Writer.{sizeText, windText}
+use Rattle.writer.specs.Writer.{sizeText, windText, pressureText}
 
 pub wrote-as : (out : List ℕ) (at : ℕ) (xs ys : List ℕ) (r : ℕ) (out′ : List ℕ) → xs ≡ ys → Wrote out at xs r out′ → Wrote out at ys r out′
 wrote-as out at xs ys r out′ e w = subst (λ (l : List ℕ). Wrote out at l r out′) e w
@@ -30,7 +30,10 @@ wind-length w v = simp length-append (omega arith)
 pub group-length : (g : Group) → length (groupText g) ≡ 11 + length (decimal (g .axial)) + length (ringText (g .ring)) + length (decimal (g .shear))
 group-length g = simp length-append (omega arith)
 
-pub line-length : (c : Record) → length (lineOf c) ≡ 10 + length (wallText (c .wall)) + length (groupText (c .group))
+pub pressure-length : (p : ℕ) → length (pressureText p) ≡ 9 + length (decimal p)
+pressure-length p = simp length-append (omega arith)
+
+pub line-length : (c : Record) → length (lineOf c) ≡ 10 + length (wallText (c .wall)) + length (groupText (c .group)) + length (innerText (c .inner))
 unfolding text
 line-length c = simp length-append (omega arith)
 
@@ -49,6 +52,9 @@ group-joined g = parts (ascii "(stress ") (decimal (g .axial)) (ascii " ") (ring
     parts : (p a b r s q : List ℕ) → p ++ a ++ b ++ r ++ (b ++ s) ++ q ≡ p ++ a ++ b ++ r ++ b ++ s ++ q
     parts p a b r s q = simp append-assoc
 
-pub line-joined : (c : Record) → ascii "(shell " ++ wallText (c .wall) ++ ascii " " ++ groupText (c .group) ++ ascii ")\n" ≡ lineOf c
+pub pressure-joined : (p : ℕ) → ascii " (inner " ++ decimal p ++ ascii ")" ≡ pressureText p
+pressure-joined p = simp append-assoc
+
+pub line-joined : (c : Record) → ascii "(shell " ++ wallText (c .wall) ++ ascii " " ++ groupText (c .group) ++ innerText (c .inner) ++ ascii ")\n" ≡ lineOf c
 unfolding text
 line-joined c = simp append-assoc

@@ -6,8 +6,9 @@ use Rattle.text.specs.Bytes.{ascii, decimal, spaced}
 use Rattle.answer.specs.Answering.{firstOr}
 use Rattle.record.specs.declared.Wall.{Wall}
 use Rattle.record.specs.declared.Ring.the-variants.{Wind}
+use Rattle.record.specs.declared.Inner.the-variants.{Given}
 use Rattle.record.specs.declared.Record.{Record}
-use Rattle.reading.specs.Text.{ringText}
+use Rattle.reading.specs.Text.{ringText, innerText}
 use Rattle.writer.specs.declared.Written.{Written}
 use Rattle.writer.specs.declared.Written.the-variants.{Put, Refused}
 use Rattle.writer.specs.Writing.{writerChecks, lineOf, startingWith}
@@ -19,6 +20,10 @@ sizeText w = decimal (w .radius) ++ spaced (w .thickness) ++ spaced (w .length)
 -- (wind w v)
 abbrev pub windText : ℕ → ℕ → List ℕ
 windText w v = ringText (Wind w v)
+
+-- (inner p), after a space
+abbrev pub pressureText : ℕ → List ℕ
+pressureText p = innerText (Given p)
 
 -- the answer, and the buffer at exit
 unfoldable pub writing : Record → List ℕ → Written × List ℕ

@@ -1,4 +1,4 @@
--- SCOPE 10.12 and 21: the writer of a record's line: its checks in their order, what it leaves in the buffer, and the number of its answer.
+-- SCOPE 10.12, 21 and 25.8: the writer of a record's line: its checks in their order, what it leaves in the buffer, and the number of its answer.
 use Prim.Native.Nat.{ℕ}
 use mathlib.Core.Path.{_≡_}
 use mathlib.Core.List.{List, _∷_, _++_}

@@ -1,5 +1,6 @@
 // Writes the line of a record (SCOPE 21).
 use record::Group;
+use record::Inner;
 use record::Record;
 use record::Ring;
 use record::Wall;
@@ -11,9 +12,9 @@ ghost use mathlib.Core.List.{List};
 ghost use Prim.Native.Nat.{ℕ, _+_, _≤_};
 ghost use lib.ListN.{length};
 ghost use Rattle.text.specs.Slices.{put};
-ghost use Rattle.reading.specs.Text.{wallText, ringText, groupText};
+ghost use Rattle.reading.specs.Text.{wallText, ringText, groupText, innerText};
 ghost use Rattle.writer.specs.Writing.{lineOf, Writes, writtenNumber};
-ghost use Rattle.writer.specs.Writer.{sizeText, windText, writing};
+ghost use Rattle.writer.specs.Writer.{sizeText, windText, pressureText, writing};
 ghost use Rattle.writer.specs.declared.Written.{Written};
 
 // What a writer answers: so many bytes put, or the number of the check that refused.
@@ -89,6 +90,29 @@ fn put_group(out: &mut [u8], at: usize, g: Group) -> usize
     put_bytes(out, at, b")")
 }
 
+// (inner p), after a space
+fn put_pressure(out: &mut [u8], at: usize, p: u64) -> usize
+    requires { ⌜ at + length (pressureText p) ≤ length (now out) ⌝ }
+    ensures { λ r. ⌜ r ≡ at + length (pressureText p) ⌝ }
+    ensures { λ _. ⌜ now (out .exit) ≡ put (now (out .entry)) at (pressureText p) ⌝ }
+{
+    let at = put_bytes(out, at, b" (inner ");
+    let at = put_number(out, at, p);
+    put_bytes(out, at, b")")
+}
+
+// nothing, or (inner p) after a space
+fn put_inner(out: &mut [u8], at: usize, inner: Inner) -> usize
+    requires { ⌜ at + length (innerText inner) ≤ length (now out) ⌝ }
+    ensures { λ r. ⌜ r ≡ at + length (innerText inner) ⌝ }
+    ensures { λ _. ⌜ now (out .exit) ≡ put (now (out .entry)) at (innerText inner) ⌝ }
+{
+    match inner {
+        Inner::Missing => at,
+        Inner::Given(p) => put_pressure(out, at, p),
+    }
+}
+
 // The line of a record, with its newline.
 fn put_line(out: &mut [u8], c: Record) -> usize
     requires { ⌜ length (lineOf c) ≤ length (now out) ⌝ }
@@ -97,10 +121,12 @@ fn put_line(out: &mut [u8], c: Record) -> usize
 {
     let wall = c.wall;
     let group = c.group;
+    let inner = c.inner;
     let at = put_bytes(out, 0, b"(shell ");
     let at = put_wall(out, at, wall);
     let at = put_bytes(out, at, b" ");
     let at = put_group(out, at, group);
+    let at = put_inner(out, at, inner);
     put_bytes(out, at, b")\n")
 }
 

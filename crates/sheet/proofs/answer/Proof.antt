@@ -19,13 +19,13 @@ enum-told c = search needs
 returns-2 : tie.Need-returns-2
 returns-2 c = let e = answer-other _ (c .before .before .before .if1 .left) _ (c .before .before .read .ensures) (c .enum-told .given .1) in (right-of _ _ e, e)
 
-judge-requires : tie.Need-judge-requires
-judge-requires c κs = search needs
+answer-requires : tie.Need-answer-requires
+answer-requires c κs = search needs
 
 returns-3 : tie.Need-returns-3
-returns-3 c = let e = answer-read _ (c .before .before .before .before .before .before .before .if1 .left) _ (c .before .before .before .before .before .before .read .ensures) _ (c .before .before .before .before .c .given .1) _ (c .judge .ensures .0) in (right-of _ _ e, e)
+returns-3 c = let e = answer-read _ (c .before .before .before .before .before .if1 .left) _ (c .before .before .before .before .read .ensures) _ (c .before .before .c .given .1) _ (c .answer .ensures .0) in (right-of _ _ e, e)
 
 pub answer-spec : {M : Type 1} → statement M
 answer-spec =
     tie.close
-    (tie.spec returns read-requires enum-known-c enum-told returns-2 judge-requires returns-3)
+    (tie.spec returns read-requires enum-known-c enum-told returns-2 answer-requires returns-3)

@@ -2,21 +2,30 @@
 use borrow.Author.Needs.{needs}
 use Rattle.record.proofs.Record.answer.Statement.{statement}
 use Rattle.record.proofs.Record.answer.Tie as tie
-use mathlib.Core.Path.{sym, ap, _∙_}
+use mathlib.Core.Path.{_≡_, sym, ap, _∙_, subst}
+use Rattle.answer.specs.declared.Answer.{Answer}
 use Rattle.answer.specs.declared.Answer.the-variants.{Refused, Judged}
 use Rattle.answer.proofs.Checks.{first-broken, all-passed, refusal-broken, refusal-none}
+use Rattle.record.specs.declared.Record.{Record}
 use Rattle.record.specs.Limits.{checks}
+use Rattle.record.specs.Right.{Right}
 use Rattle.record.specs.Answering.{recordAnswer}
 use Rattle.record.proofs.Checks.{above-none}
+use Rattle.record.proofs.Right.{record-right}
 
 refusal-requires : tie.Need-refusal-requires
 refusal-requires c κs = search needs
+
+-- what the program answers is right
+laid : (c : Record) (a : Answer) → a ≡ recordAnswer c → (a ≡ recordAnswer c) × Right c a
+laid c a e = (e, subst (Right c) (sym e) (record-right c))
 
 returns : tie.Need-returns
 unfolding recordAnswer
 returns c =
     let self = c .before .before .args .self in
-    sym (first-broken Refused _ (checks self) _ (refusal-broken (checks self) (above-none self) _ (c .before .refusal .ensures) (c .if1 .taken)))
+    laid self _
+    (sym (first-broken Refused _ (checks self) _ (refusal-broken (checks self) (above-none self) _ (c .before .refusal .ensures) (c .if1 .taken))))
 
 judgement-requires : tie.Need-judgement-requires
 judgement-requires c κs =
@@ -27,8 +36,9 @@ returns-2 : tie.Need-returns-2
 unfolding recordAnswer
 returns-2 c =
     let self = c .before .before .before .args .self in
-    ap Judged (c .judgement .ensures)
-    ∙ sym (all-passed Refused _ (checks self) (refusal-none (checks self) (above-none self) _ (c .before .before .refusal .ensures) (c .before .if1 .left)))
+    laid self _
+    (ap Judged (c .judgement .ensures)
+    ∙ sym (all-passed Refused _ (checks self) (refusal-none (checks self) (above-none self) _ (c .before .before .refusal .ensures) (c .before .if1 .left))))
 
 pub answer-spec : {M : Type 1} → statement M
 answer-spec = tie.close (tie.spec refusal-requires returns judgement-requires returns-2)

@@ -3,12 +3,14 @@ use borrow.Author.Needs.{needs}
 use Rattle.record.proofs.Record.judgement.Statement.{statement}
 use Rattle.record.proofs.Record.judgement.Tie as tie
 use mathlib.Core.Path.{ap, _∙_}
-use lib.Dec.{lit≤}
+use native.Mathlib.Omega.{arith}
+use borrow.Author.Tests.{leb-true}
+use Rattle.record.specs.Limits.{pressureOf}
 use Rattle.cylinder.specs.declared.Cylinder.{Cylinder}
 use Rattle.record.specs.Right.{ringStress}
 use Rattle.record.specs.Answering.{boundsOf}
 use Rattle.record.proofs.Checks.{ranges}
-use Rattle.record.proofs.Loads.{wall-fits, ring-fits, load-small, bounds-are}
+use Rattle.record.proofs.Loads.{wall-fits, ring-fits, load-small, load-whole-range, bounds-are}
 
 cylinder-requires : tie.Need-cylinder-requires
 cylinder-requires c κs = wall-fits (c .before .before .args .self) (c .before .before .pre)
@@ -25,16 +27,20 @@ load-requires-2 c κs = search needs
 load-requires-3 : tie.Need-load-requires-3
 load-requires-3 c κs = search needs
 
-of-sum-requires : tie.Need-of-sum-requires
-of-sum-requires c κs =
-    let self = c .before .before .before .before .before .before .before .args .self in
-    let all = c .before .before .before .before .before .before .before .pre in
+pressure-requires : tie.Need-pressure-requires
+pressure-requires c κs = search needs
+
+of-line-requires : tie.Need-of-line-requires
+of-line-requires c κs =
+    let z = c .before in
+    let self = z .before .before .before .before .before .before .before .args .self in
+    let all = z .before .before .before .before .before .before .before .pre in
     let r = ranges self (all .0) in (
-      ring-fits self all _ (c .before .before .before .before .cylinder .ensures) .0,
-      load-small _ (c .before .before .before .load .ensures) (r .axial),
-      load-small _ (c .before .load2 .ensures) (c .before .before .stress-on .ensures .1),
-      load-small _ (c .load3 .ensures) (r .shear),
-      lit≤ tt,
+      ring-fits self all _ (z .before .before .before .before .cylinder .ensures) .0,
+      omega (arith, c .pressure .ensures, leb-true (pressureOf (self .inner)) 1000000 (all .1 .1 .1 .1 .1 .1 .1 .0)),
+      load-whole-range _ (z .before .before .before .load .ensures) (r .axial),
+      load-small _ (z .before .load2 .ensures) (z .before .before .stress-on .ensures .1),
+      load-small _ (z .load3 .ensures) (r .shear),
     )
 
 by-bounds-requires : tie.Need-by-bounds-requires
@@ -43,12 +49,17 @@ by-bounds-requires c κs = search needs
 returns : tie.Need-returns
 unfolding boundsOf
 returns c =
-    let b = c .before .of-sum .ensures in
-    let e = c .before .before .before .before .before .before .cylinder .ensures in
-    let y = c .before .before .before .load2 .ensures in
+    let f = c .before in
+    let p = f .before in
+    let z = p .before in
+    let b = f .of-line .ensures in
+    let k = z .before .before .before .before in
+    let e = k .cylinder .ensures in
+    let y = z .before .load2 .ensures in
+    let g = z .before .before .before .before .before .before .before .args .self .group in
     c .by-bounds .ensures
-    ∙ bounds-are _ _ _ _ _ _ _ _ _ _ e (c .before .before .before .before .before .load .ensures) (y .0 ∙ c .before .before .before .before .stress-on .ensures .0 ∙ ap (λ (s : Cylinder). ringStress s (c .before .before .before .before .before .before .before .before .before .args .self .group .ring)) e, y .1)
-    (c .before .before .load3 .ensures) (b .0) (b .1)
+    ∙ bounds-are _ _ _ _ _ _ _ _ _ _ _ _ e (p .pressure .ensures) (z .before .before .before .load .ensures) (y .0 ∙ z .before .before .stress-on .ensures .0 ∙ ap (λ (s : Cylinder). ringStress s (g .ring)) e, y .1)
+    (z .load3 .ensures) (b .0) (b .1)
 
 pub judgement-spec : {M : Type 1} → statement M
 judgement-spec =
@@ -59,6 +70,7 @@ judgement-spec =
     stress-on-requires
     load-requires-2
     load-requires-3
-    of-sum-requires
+    pressure-requires
+    of-line-requires
     by-bounds-requires
     returns)

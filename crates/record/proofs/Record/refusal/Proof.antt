@@ -2,7 +2,9 @@
 use borrow.Author.Needs.{needs}
 use Rattle.record.proofs.Record.refusal.Statement.{statement}
 use Rattle.record.proofs.Record.refusal.Tie as tie
-use mathlib.Core.Path.{refl, sym}
+use mathlib.Core.Path.{refl, sym, ap, _∙_}
+use Prim.Native.Nat.{ℕ}
+use lib.Dec.{leb}
 use mathlib.Core.Logic.{inl, inr}
 use native.Mathlib.Omega.{arith}
 use borrow.Author.Tests.{le-leb, lt-leb}
@@ -47,8 +49,18 @@ has-allowed-wind-requires c κs = search needs
 returns-7 : tie.Need-returns-7
 returns-7 c = sym (first-broken (λ n. n) 0 (checks (c .before .before .before .before .before .before .before .before .before .before .before .before .before .before .before .before .args .self)) 13 (inr (told-yes (c .before .before .before .before .before .before .before .before .before .before .before .before .before .is-in-range .ensures) (c .before .before .before .before .before .before .before .before .before .before .before .before .if1 .left), inr (told-yes (c .before .before .before .before .before .before .before .before .before .before .before .has-known-edges .ensures) (c .before .before .before .before .before .before .before .before .before .before .if2 .left), inr (le-leb _ _ (c .before .before .before .before .before .before .before .before .if3 .left), inr (told-yes (c .before .before .before .before .before .before .before .has-wall-ratio .ensures) (c .before .before .before .before .before .before .if4 .left), inr (told-yes (c .before .before .before .before .before .has-length-ratio .ensures) (c .before .before .before .before .if5 .left), inr (le-leb _ _ (c .before .before .if6 .left), inl (told-not (c .before .has-allowed-wind .ensures) (c .if7 .taken), refl)))))))))
 
+pressure-requires : tie.Need-pressure-requires
+pressure-requires c κs = search needs
+
 returns-8 : tie.Need-returns-8
-returns-8 c = sym (all-passed (λ n. n) 0 (checks (c .before .before .before .before .before .before .before .before .before .before .before .before .before .before .before .before .args .self)) (told-yes (c .before .before .before .before .before .before .before .before .before .before .before .before .before .is-in-range .ensures) (c .before .before .before .before .before .before .before .before .before .before .before .before .if1 .left), (told-yes (c .before .before .before .before .before .before .before .before .before .before .before .has-known-edges .ensures) (c .before .before .before .before .before .before .before .before .before .before .if2 .left), (le-leb _ _ (c .before .before .before .before .before .before .before .before .if3 .left), (told-yes (c .before .before .before .before .before .before .before .has-wall-ratio .ensures) (c .before .before .before .before .before .before .if4 .left), (told-yes (c .before .before .before .before .before .has-length-ratio .ensures) (c .before .before .before .before .if5 .left), (le-leb _ _ (c .before .before .if6 .left), (told-yes (c .before .has-allowed-wind .ensures) (c .if7 .left), tt))))))))
+returns-8 c =
+    let e = c .before .before in
+    sym (first-broken (λ n. n) 0 (checks (e .before .before .before .before .before .before .before .before .before .before .before .before .before .before .before .before .args .self)) 16 (inr (told-yes (e .before .before .before .before .before .before .before .before .before .before .before .before .before .is-in-range .ensures) (e .before .before .before .before .before .before .before .before .before .before .before .before .if1 .left), inr (told-yes (e .before .before .before .before .before .before .before .before .before .before .before .has-known-edges .ensures) (e .before .before .before .before .before .before .before .before .before .before .if2 .left), inr (le-leb _ _ (e .before .before .before .before .before .before .before .before .if3 .left), inr (told-yes (e .before .before .before .before .before .before .before .has-wall-ratio .ensures) (e .before .before .before .before .before .before .if4 .left), inr (told-yes (e .before .before .before .before .before .has-length-ratio .ensures) (e .before .before .before .before .if5 .left), inr (le-leb _ _ (e .before .before .if6 .left), inr (told-yes (e .before .has-allowed-wind .ensures) (e .if7 .left), inl (ap (λ (x : ℕ). leb x 1000000) (sym (c .before .pressure .ensures)) ∙ lt-leb _ _ (c .if8 .taken), refl))))))))))
+
+returns-9 : tie.Need-returns-9
+returns-9 c =
+    let e = c .before .before in
+    sym (all-passed (λ n. n) 0 (checks (e .before .before .before .before .before .before .before .before .before .before .before .before .before .before .before .before .args .self)) (told-yes (e .before .before .before .before .before .before .before .before .before .before .before .before .before .is-in-range .ensures) (e .before .before .before .before .before .before .before .before .before .before .before .before .if1 .left), (told-yes (e .before .before .before .before .before .before .before .before .before .before .before .has-known-edges .ensures) (e .before .before .before .before .before .before .before .before .before .before .if2 .left), (le-leb _ _ (e .before .before .before .before .before .before .before .before .if3 .left), (told-yes (e .before .before .before .before .before .before .before .has-wall-ratio .ensures) (e .before .before .before .before .before .before .if4 .left), (told-yes (e .before .before .before .before .before .has-length-ratio .ensures) (e .before .before .before .before .if5 .left), (le-leb _ _ (e .before .before .if6 .left), (told-yes (e .before .has-allowed-wind .ensures) (e .if7 .left), (ap (λ (x : ℕ). leb x 1000000) (sym (c .before .pressure .ensures)) ∙ le-leb _ _ (c .if8 .left), tt)))))))))
 
 pub refusal-spec : {M : Type 1} → statement M
 refusal-spec =
@@ -66,4 +78,6 @@ refusal-spec =
     returns-6
     has-allowed-wind-requires
     returns-7
-    returns-8)
+    pressure-requires
+    returns-8
+    returns-9)

@@ -1,0 +1,12 @@
+-- The laws.
+pub mod Enclosed
+pub mod Words
+pub mod Grown
+pub mod Above
+pub mod Spots
+pub mod Fits
+pub mod Reduced
+pub mod WithGain
+pub mod TestRule
+pub mod Lines
+pub mod Paper
