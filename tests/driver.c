@@ -118,8 +118,8 @@ static void writer(void) {
     if (kind > 1) broken("a group is of kind 0 or 1");
     if (kind == 0 && y != 0) broken("a group of kind 0 has 0 for y");
     uint64_t has = number(), p = number();
-    if (has > 1) broken("a line has an inner pressure or has none");
-    if (has == 0 && p != 0) broken("an inner pressure that is missing has 0 for p");
+    if (has > 1) broken("a line has an internal pressure or has none");
+    if (has == 0 && p != 0) broken("an internal pressure that is missing has 0 for p");
     ended();
     size_t room = (size_t)given, size = room + PAST;
     unsigned char *lent = malloc(size), *before = malloc(size);
