@@ -53,7 +53,7 @@ folders = $(prefix)/bin $(libdir)/pkgconfig $(prefix)/include $(prefix)/share/ma
 files = $(prefix)/bin/shellsheet $(libdir)/libshellsheet.a $(libdir)/pkgconfig/shellsheet.pc $(prefix)/include/shellsheet.h \
     $(prefix)/share/man/man1/shellsheet.1 $(prefix)/share/man/man3/shell_judge.3 $(prefix)/share/man/man3/shell_write.3 \
     $(prefix)/share/man/man3/shell_write_wind.3 $(prefix)/share/man/man3/shell_choose_plate.3 $(prefix)/share/man/man3/shell_judge_line.3 \
-    $(prefix)/share/man/man3/shell_write_inner.3 $(prefix)/share/man/man3/shell_write_wind_inner.3
+    $(prefix)/share/man/man3/shell_write_inner.3 $(prefix)/share/man/man3/shell_write_wind_inner.3 $(prefix)/share/man/man3/shell_write_cases.3
 # the folders that install had to make, so that uninstall takes away these and no others
 made = '$(DESTDIR)$(prefix)/share/shellsheet/folders'
 fill = sed -e 's|@PREFIX@|$(prefix)|' -e 's|@LIBDIR@|$(patsubst $(prefix)/%,$${prefix}/%,$(libdir))|' -e 's|@VERSION@|$(VERSION)|'
@@ -91,6 +91,7 @@ install: paths $(program) $(archive)
 	$(fill) man/shell_judge_line.3 >'$(DESTDIR)$(prefix)/share/man/man3/shell_judge_line.3'
 	$(fill) man/shell_write_inner.3 >'$(DESTDIR)$(prefix)/share/man/man3/shell_write_inner.3'
 	install -m 644 man/shell_write_wind_inner.3 '$(DESTDIR)$(prefix)/share/man/man3/shell_write_wind_inner.3'
+	$(fill) man/shell_write_cases.3 >'$(DESTDIR)$(prefix)/share/man/man3/shell_write_cases.3'
 	@chmod a+r $(foreach f,$(files),'$(DESTDIR)$(f)')
 
 uninstall: paths

@@ -24,26 +24,45 @@ static const unsigned char *number(const unsigned char *at, const unsigned char 
 
 static int outside(uint64_t x, uint64_t low, uint64_t high) { return x < low || x > high; }
 
+enum { CASES = 8 };
+
+/* What a stress group has: v[7] to v[9] of a record, and wind. */
+struct load {
+    uint64_t sx, sphi, tau, w, vented;
+    int windy;
+};
+
+/* Reads a stress group behind " (stress ". */
+static const unsigned char *load_case(const unsigned char *at, const unsigned char *end, struct load *c) {
+    at = fixed(number(at, end, &c->sx), end, " ");
+    const unsigned char *wind = fixed(at, end, "(wind ");
+    c->windy = wind != NULL;
+    c->sphi = c->w = c->vented = 0;
+    at = wind ? fixed(number(fixed(number(wind, end, &c->w), end, " "), end, &c->vented), end, ") ") : fixed(number(at, end, &c->sphi), end, " ");
+    return fixed(number(at, end, &c->tau), end, ")");
+}
+
 /* The answer to a line: a refusal, HOLDS or FAILS. */
 static int double_answer(const unsigned char *at, const unsigned char *end) {
-    uint64_t v[11], w = 0, vented = 0, p = 0;
-    if (end - at > 128) return 4;
+    uint64_t v[11], p = 0;
+    struct load cases[CASES];
+    int count = 0, fails = 0, stress = 0, wind = 0;
+    if (end - at > 512) return 4;
     at = fixed(at, end, "(shell ");
     for (int i = 0; i < 7; i++) at = number(i ? fixed(at, end, " ") : at, end, &v[i]);
     const unsigned char *group = fixed(at, end, " (stress ");
     v[10] = 0; /* a line without d */
     if (!group) group = fixed(number(fixed(at, end, " "), end, &v[10]), end, " (stress ");
-    at = group;
-    at = fixed(number(at, end, &v[7]), end, " ");
-    const unsigned char *wind = fixed(at, end, "(wind ");
-    v[8] = 0; /* a line with wind */
-    at = wind ? fixed(number(fixed(number(wind, end, &w), end, " "), end, &vented), end, ") ") : fixed(number(at, end, &v[8]), end, " ");
-    at = fixed(number(at, end, &v[9]), end, ")");
+    for (at = NULL; group && count < CASES; group = fixed(at, end, " (stress ")) at = load_case(group, end, &cases[count++]);
     const unsigned char *inner = fixed(at, end, " (inner ");
     at = fixed(inner ? fixed(number(inner, end, &p), end, ")") : at, end, ")");
     if (at != end) return 5;
+    for (int i = 0; i < count; i++) {
+        stress |= cases[i].sx > 700000 || cases[i].sphi > 700000 || cases[i].tau > 700000;
+        wind |= cases[i].w > 10000 || cases[i].vented > 1;
+    }
     if (outside(v[0], 100, 50000) || outside(v[1], 100, 10000) || outside(v[2], 10, 200000) || outside(v[3], 60000, 220000) ||
-        outside(v[4], 100, 700) || v[7] > 700000 || v[8] > 700000 || v[9] > 700000)
+        outside(v[4], 100, 700) || stress)
         return 6;
     if (v[5] != 11 && v[5] != 12 && v[5] != 22) return 7;
     if (v[10] > 50) return 11;
@@ -51,10 +70,15 @@ static int double_answer(const unsigned char *at, const unsigned char *end) {
     if (outside(200 * v[0], 20 * wall, 2500 * wall)) return 8;
     if (v[0] > 20 * v[2] || v[2] > 50 * v[0]) return 9;
     if (v[6] > 2000) return 10;
-    if (w > 10000 || vented > 1) return 13;
+    if (wind) return 13;
     if (p > 1000000) return 16;
-    if (wind) v[8] = (uint64_t)double_wind(v, w, vented);
-    return double_sum(v, p) <= 1 ? HOLDS : FAILS;
+    for (int i = 0; i < count; i++) {
+        v[7] = cases[i].sx;
+        v[8] = cases[i].windy ? (uint64_t)double_wind(v, cases[i].w, cases[i].vented) : cases[i].sphi;
+        v[9] = cases[i].tau;
+        fails |= !(double_sum(v, p) <= 1);
+    }
+    return fails ? FAILS : HOLDS;
 }
 
 static char *put_number(char *out, unsigned x) {

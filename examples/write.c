@@ -1,4 +1,4 @@
-/* Writes a sheet from a drawing office's model, here a table of a silo's courses and one of a tank's walls under wind, to standard output. What is refused has
+/* Writes a sheet from a drawing office's model, here a table of a silo's courses, one of a tank's walls under wind and a bin with its load cases, to standard output. What is refused has
    no line there; it is named on standard error, and the exit status is 1. Compile: cc -Wconversion write.c $(pkg-config --cflags --libs shellsheet) */
 #include <shellsheet.h>
 #include <stdio.h>
@@ -26,6 +26,13 @@ static const struct wall tank[] = {
     {"vented tank", 7500, 500, 9000, 210000, 240, 12, 1000, 4000, 800, 1, 2000, 0},
 };
 
+/* The load cases of a bin, five numbers for each, in the order of shell_write_cases: sx, 0, sphi, 0, tau; or with wind sx, 1, w, v, tau. */
+static const uint64_t bin[] = {
+    20000, 0, 0, 0, 0,       /* full */
+    4000, 1, 1500, 0, 5000,  /* empty, under wind */
+    12000, 1, 1500, 0, 6000, /* half full, under wind */
+};
+
 /* Prints a line that was written, 0 bytes of one that is refused; says why it is, and returns 1 then. */
 static int print(const char *name, const uint8_t *line, uint64_t answer) {
     fwrite(line, 1, shell_written(answer), stdout);
@@ -47,6 +54,8 @@ int main(void) {
         uint64_t answer = shell_write_wind(line, sizeof line, c->r, c->t, c->l, c->e, c->fy, c->edges, c->a, c->sx, c->w, c->v, c->tau, c->d);
         refused |= print(c->name, line, answer);
     }
+    uint64_t answer = shell_write_cases(line, sizeof line, bin, sizeof bin / sizeof *bin, 5000, 500, 10000, 210000, 240, 12, 1000, 0, 0, 0);
+    refused |= print("bin", line, answer);
     if (fflush(stdout) || ferror(stdout)) {
         perror("write: standard output");
         return 2;

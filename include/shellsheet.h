@@ -10,10 +10,10 @@
    (uint64_t)ceil(x). A negative whole number, such as a tension, arrives as one above 2^63 and is refused; a negative double
    has no defined value in C.
 
-   WIND: shell_write_wind takes the gust pressure w in N/m²: 1 kN/m² is 1,000 N/m². One passed in kN/m² is 1,000 times too small, no check can
+   WIND: shell_write_wind and shell_write_cases take the gust pressure w in N/m²: 1 kN/m² is 1,000 N/m². One passed in kN/m² is 1,000 times too small, no check can
    notice it, and the shell holds. Round it up.
 
-   INTERNAL PRESSURE: shell_write_inner and shell_write_wind_inner take it in N/m²: 1 kN/m² is 1,000 N/m². It raises a resistance: pass only what is there for certain
+   INTERNAL PRESSURE: shell_write_inner, shell_write_wind_inner and shell_write_cases take it in N/m²: 1 kN/m² is 1,000 N/m². It raises a resistance: pass only what is there for certain
    whenever the axial stress is, without a factor, and round it down.
 
    LINE FORCES: shell_choose_plate takes forces per length of edge in N/mm, which is kN/m. One passed in kN/mm is 1,000 times too small, no check can notice
@@ -29,7 +29,7 @@
 
 /* The version, as two numbers and as text: "MAJOR.MINOR". It stands here alone: make reads it from these two lines. */
 #define SHELLSHEET_VERSION_MAJOR 0
-#define SHELLSHEET_VERSION_MINOR 6
+#define SHELLSHEET_VERSION_MINOR 7
 #define SHELLSHEET_VERSION SHELLSHEET_TEXT(SHELLSHEET_VERSION_MAJOR, SHELLSHEET_VERSION_MINOR)
 #define SHELLSHEET_TEXT(major, minor) SHELLSHEET_QUOTE(major) "." SHELLSHEET_QUOTE(minor)
 #define SHELLSHEET_QUOTE(number) #number
@@ -60,15 +60,19 @@ uint64_t shell_judge(uint64_t r, uint64_t t, uint64_t l, uint64_t e, uint64_t fy
                      uint64_t sx, uint64_t sphi, uint64_t tau, uint64_t d);
 
 /* The answer to one line of a sheet, given as length bytes without a newline behind them: a refusal, 4 to 11, 13 or 16, or
-   10,000,000,000 × verdict + 100,000 × L + U, as of shell_judge. Any bytes may be passed, and with a length of 0 none is read.
+   100,000,000,000 × (case - 1) + 10,000,000,000 × verdict + 100,000 × L + U. Any bytes may be passed, and with a length of 0 none is read.
 
-   The line may have wind or an internal pressure, which shell_judge does not take:
+   The line may have wind, an internal pressure and several load cases, which shell_judge does not take. A load case is a stress group, of either kind:
 
        (shell r t l e fy edges a d (stress sx sphi tau))
-       (shell r t l e fy edges a d (stress sx (wind w v) tau))
+       (shell r t l e fy edges a d (stress sx (wind w v) tau) (stress sx sphi tau))
 
-   each with or without d, and with or without (inner p) behind the stresses, inside the last bracket: (shell .. (stress ..) (inner p)). A line of over 128 bytes is
-   refused by 4, one that is not of the form by 5. The program shellsheet gives the same verdict or refusal to the line in a sheet.
+   There are one to eight of them, with or without d before them, and with or without (inner p), which is for all of them, behind the last: (shell .. (stress ..) (inner p)). A
+   line of over 512 bytes is refused by 4, one that is not of the form, as with no group or with nine, by 5. A refusal in any load case refuses the line, by the first check
+   that is broken in any of them. The program shellsheet gives the same verdict or refusal to the line in a sheet.
+
+   Each load case has the verdict that it would have on a line of its own. The line's is the worst: it fails if one fails, else it is open if one is open, else it holds. case is
+   the governing one, the first with the line's verdict, counted from 1; L and U are of its sum. A line with one load case, without wind and internal pressure, has the number that shell_judge would give.
 
    Where the test of the internal pressure cannot be decided, U may be more than L + 2: L is of the sum with the pressure's gain, U of the sum without it.
 
@@ -81,7 +85,7 @@ uint64_t shell_judge_line(const uint8_t *line, size_t length);
        (shell r t l e fy edges a d (stress sx sphi tau))
 
    The answer is the number of bytes put, 51 to 79, and the bytes behind them keep their values; or it is a refusal, 6 to 12, and every
-   byte keeps its value. A room below 128 is refused by 12, before any other check and also where the line would fit; 6 to 11 are those
+   byte keeps its value. A room below 512 is refused by 12, before any other check and also where the line would fit; 6 to 11 are those
    of shell_judge. No zero byte is put behind the newline.
 
    The numbers are those of shell_judge, in the same order and units, and any may be passed. Each is written as it is given: d also where
@@ -134,6 +138,23 @@ uint64_t shell_write_inner(uint8_t *out, size_t room, uint64_t r, uint64_t t, ui
 uint64_t shell_write_wind_inner(uint8_t *out, size_t room, uint64_t r, uint64_t t, uint64_t l, uint64_t e, uint64_t fy, uint64_t edges, uint64_t a,
                                 uint64_t sx, uint64_t w, uint64_t v, uint64_t tau, uint64_t d, uint64_t p);
 
+/* Writes the line of a shell with one to eight load cases, as shell_write does:
+
+       (shell r t l e fy edges a d (stress sx sphi tau) (stress sx (wind w v) tau) .. (inner p))
+
+       groups         five numbers for each load case, in order: sx, kind, x, y, tau; a kind of 0 has sphi in x, and y does not matter, any other has w in x and v in y
+       numbers        how many numbers there are: five times the load cases, so not the number of load cases
+       has, p         the internal pressure p, N/m²; where has is 0 the line has no such group, and p does not matter
+
+   All other numbers are those of shell_write, but d stands behind a. The load cases are put in their order. With one load case the line is the one that shell_write or another of
+   the four calls puts.
+
+   The answer is the number of bytes put, 51 to 369, or a refusal: 12 for the room, before all else; then 5 for numbers that are not five for each of 1 to 8 load cases, whatever
+   they are; then 6 to 11, 13 or 16 for the first check that any load case breaks. room, the bytes that keep their values, memory and threads are as with shell_write; groups is
+   read, and not changed. It takes less than 16 KB of the calling thread's stack. */
+uint64_t shell_write_cases(uint8_t *out, size_t room, const uint64_t *groups, size_t numbers, uint64_t r, uint64_t t, uint64_t l, uint64_t e, uint64_t fy,
+                           uint64_t edges, uint64_t a, uint64_t d, uint64_t has, uint64_t p);
+
 /* Chooses a plate from stock: the first of the count thicknesses from plates on with which a shell holds under three line forces.
 
        plates           thicknesses, hundredths of a mm, each larger than the one before it
@@ -156,8 +177,12 @@ uint64_t shell_choose_plate(const uint64_t *plates, size_t count, uint64_t r, ui
                             uint64_t nx, uint64_t nphi, uint64_t nxphi);
 
 enum shell_bytes {
-    SHELL_ROOM = 128,    /* of a buffer for shell_write and the others that write, at least */
+    SHELL_ROOM = 512,    /* of a buffer for shell_write and the others that write, at least */
     SHELL_SHORTEST = 51  /* of a line with its newline, at least: a smaller answer is a refusal */
+};
+
+enum shell_cases {
+    SHELL_CASES = 8  /* in a line, at most */
 };
 
 enum shell_plates {
@@ -167,9 +192,9 @@ enum shell_plates {
 
 /* Why a call is refused: the first of these checks, in this order, that is broken. */
 enum shell_refusals {
-    SHELL_REFUSED_LINE = 4,           /* of shell_judge_line only: the line has over 128 bytes */
-    SHELL_REFUSED_FORM = 5,           /* of shell_judge_line only: the line is not of the form */
-    SHELL_REFUSED_ROOM = 12,          /* of the calls that write only: the buffer has fewer than 128 bytes */
+    SHELL_REFUSED_ROOM = 12,          /* of the calls that write only: the buffer has fewer than 512 bytes */
+    SHELL_REFUSED_LINE = 4,           /* of shell_judge_line only: the line has over 512 bytes */
+    SHELL_REFUSED_FORM = 5,           /* of shell_judge_line: the line is not of the form; of shell_write_cases: there are not five numbers for each of 1 to 8 load cases */
     SHELL_REFUSED_PLATES = 14,        /* of shell_choose_plate only: the list has no plate or over 64, or one is not thicker than the one before it */
     SHELL_REFUSED_RANGE = 6,          /* r, t, l, e, fy or a stress is outside its range; of shell_choose_plate r, l, e or fy */
     SHELL_REFUSED_EDGES = 7,          /* edges are not 11, 12 or 22 */
@@ -203,12 +228,17 @@ static inline unsigned shell_place(uint64_t answer) {
     return answer > SHELL_PLATE_NONE && answer <= SHELL_PLATE_NONE + SHELL_PLATES ? (unsigned)(answer - SHELL_PLATE_NONE) : 0;
 }
 
-/* The verdict in an answer, or 0 if the record was refused. */
+/* The verdict in an answer, or 0 if the record or line was refused. */
 static inline unsigned shell_verdict(uint64_t answer) {
-    return (unsigned)(answer / 10000000000u);
+    return (unsigned)(answer % 100000000000u / 10000000000u);
 }
 
-/* L: the exact sum is at least L/10,000. At most 20,000. */
+/* The governing load case in an answer of shell_judge_line, from 1 to SHELL_CASES, or 0 if the line was refused; of shell_judge it is 1. */
+static inline unsigned shell_case(uint64_t answer) {
+    return answer < 10000000000u ? 0 : (unsigned)(answer / 100000000000u + 1);
+}
+
+/* L: the exact sum, of several load cases that of the governing one, is at least L/10,000. At most 20,000. */
 static inline unsigned shell_low(uint64_t answer) {
     return (unsigned)(answer % 10000000000u / 100000u);
 }
@@ -223,9 +253,9 @@ static inline unsigned shell_high(uint64_t answer) {
    shell_place tells what they are. */
 static inline const char *shell_reason(uint64_t answer) {
     switch (answer) {
-    case SHELL_REFUSED_LINE: return "the line has over 128 bytes";
-    case SHELL_REFUSED_FORM: return "the line is not of the form";
-    case SHELL_REFUSED_ROOM: return "the buffer has fewer than 128 bytes";
+    case SHELL_REFUSED_ROOM: return "the buffer has fewer than 512 bytes";
+    case SHELL_REFUSED_LINE: return "the line has over 512 bytes";
+    case SHELL_REFUSED_FORM: return "the line is not of the form, with one to eight load cases";
     case SHELL_REFUSED_PLATES: return "the list has no plate or over 64, or a plate is not thicker than the one before it";
     case SHELL_REFUSED_RANGE: return "radius, wall, length, modulus, yield stress or a stress is outside its range";
     case SHELL_REFUSED_EDGES: return "the edges are not 11, 12 or 22";
@@ -239,7 +269,7 @@ static inline const char *shell_reason(uint64_t answer) {
     default: break;
     }
     if (shell_written(answer)) return "written";
-    switch (shell_verdict(answer)) {
+    switch (shell_case(answer) <= SHELL_CASES ? shell_verdict(answer) : 0) {
     case SHELL_HOLDS: return "holds";
     case SHELL_FAILS: return "fails";
     case SHELL_OPEN: return "open";

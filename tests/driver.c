@@ -2,12 +2,13 @@
    of a case are parted by one space; what stands behind " = ", the expected answer, is not read, and neither is a line that starts with #.
 
        calls    the eleven numbers of shell_judge: the number that it returns
-       lines    the bytes of one line, for shell_judge_line: "R refusal" or "J verdict case L U", with 1 for the case, the place of the group that is judged. Bytes are
+       lines    the bytes of one line, for shell_judge_line: "R refusal" or "J verdict case L U", case being the governing load case. Bytes are
                 hex, or hh*n for n equal ones, parts joined by "."; "-" is none
-       writer   room r t l E fy edges a d n, n times sx kind x y tau, then has p: "R refusal kept" or "B length bytes kept", the bytes in hex. The
-                forms that there are calls for: n is 1, and kind is 0 with sphi for x and 0 for y (shell_write), or 1 with w for x and v for y
-                (shell_write_wind); has is 0 with 0 for p, or 1 (shell_write_inner, shell_write_wind_inner). The lent buffer of room bytes holds (7 i + 3)
-                mod 256 at place i; kept is 1 if all that the call must not change is as it was, past the buffer's end too, else 0
+       writer   room r t l E fy edges a d n, n times sx kind x y tau, then has p: "R refusal kept" or "B length bytes kept", the bytes in hex. kind is 0
+                with sphi for x and 0 for y, or 1 with w for x and v for y; has is 0 with 0 for p, or 1. shell_write_cases is called, for any n; where n is
+                1, that of shell_write, shell_write_wind, shell_write_inner and shell_write_wind_inner which has the form is too, and has to do the same. The
+                lent buffer of room bytes holds (7 i + 3) mod 256 at place i; kept is 1 if all that the calls must not change is as it was, the groups
+                and what is past the buffer's end too, else 0
        plates   r l E fy edges a nx nphi nxphi n, then n plates, for shell_choose_plate: "R refusal" or "P place", with 0 for the place if no plate holds
 
    Another kind is a function, which takes the words of a case and prints its line, and a row in the table of kinds. */
@@ -57,7 +58,7 @@ static void calls(void) {
     printf("%" PRIu64 "\n", shell_judge(v[0], v[1], v[2], v[3], v[4], v[5], v[6], v[7], v[8], v[9], v[10]));
 }
 
-enum { MOST_ROOM = 1 << 24, PAST = 256 };  /* PAST: bytes behind the lent ones */
+enum { MOST_ROOM = 1 << 24, PAST = 256, MOST_GROUPS = 1 << 20 };  /* PAST: bytes behind the lent ones */
 
 static int digit(char c) {
     const char *digits = "0123456789abcdef", *at = c ? strchr(digits, c) : NULL;
@@ -102,7 +103,7 @@ static void lines(void) {
     uint64_t answer = shell_judge_line(lent, length);
     if (memcmp(lent, before, length + PAST)) broken("the line was changed");
     if (shell_verdict(answer))
-        printf("J %u 1 %u %u\n", shell_verdict(answer), shell_low(answer), shell_high(answer));
+        printf("J %u %u %u %u\n", shell_verdict(answer), shell_case(answer), shell_low(answer), shell_high(answer));
     else
         printf("R %" PRIu64 "\n", answer);
     free(lent);
@@ -113,24 +114,37 @@ static void writer(void) {
     uint64_t given = number(), w[8];
     if (given > MOST_ROOM) broken("the buffer is too large");
     for (int i = 0; i < 8; i++) w[i] = number();
-    if (number() != 1) broken("a line has one group of stresses");
-    uint64_t sx = number(), kind = number(), x = number(), y = number(), tau = number();
-    if (kind > 1) broken("a group is of kind 0 or 1");
-    if (kind == 0 && y != 0) broken("a group of kind 0 has 0 for y");
+    uint64_t n = number();
+    if (n > MOST_GROUPS) broken("there are too many groups of stresses");
+    size_t numbers = 5 * (size_t)n, listed = (numbers + 1) * sizeof(uint64_t);  /* one more, so that no list is without memory */
+    uint64_t *groups = malloc(listed), *given_groups = malloc(listed);
+    if (!groups || !given_groups) broken("there is no memory for the groups");
+    for (size_t i = 0; i < numbers; i++) groups[i] = number();
+    groups[numbers] = UINT64_MAX;
+    memcpy(given_groups, groups, listed);
+    for (uint64_t i = 0; i < n; i++) {
+        if (groups[5 * i + 1] > 1) broken("a group is of kind 0 or 1");
+        if (groups[5 * i + 1] == 0 && groups[5 * i + 3] != 0) broken("a group of kind 0 has 0 for y");
+    }
     uint64_t has = number(), p = number();
-    if (has > 1) broken("a line has an inner pressure or has none");
-    if (has == 0 && p != 0) broken("an inner pressure that is missing has 0 for p");
+    if (has > 1) broken("a line has an internal pressure or has none");
+    if (has == 0 && p != 0) broken("an internal pressure that is missing has 0 for p");
     ended();
     size_t room = (size_t)given, size = room + PAST;
-    unsigned char *lent = malloc(size), *before = malloc(size);
-    if (!lent || !before) broken("there is no memory for the buffer");
-    for (size_t i = 0; i < size; i++) lent[i] = before[i] = (unsigned char)(7 * i + 3);
-    uint64_t answer = kind && has ? shell_write_wind_inner(lent, room, w[0], w[1], w[2], w[3], w[4], w[5], w[6], sx, x, y, tau, w[7], p)
-                      : kind      ? shell_write_wind(lent, room, w[0], w[1], w[2], w[3], w[4], w[5], w[6], sx, x, y, tau, w[7])
-                      : has       ? shell_write_inner(lent, room, w[0], w[1], w[2], w[3], w[4], w[5], w[6], sx, x, tau, w[7], p)
-                                  : shell_write(lent, room, w[0], w[1], w[2], w[3], w[4], w[5], w[6], sx, x, tau, w[7]);
+    unsigned char *lent = malloc(size), *before = malloc(size), *other = malloc(size);
+    if (!lent || !before || !other) broken("there is no memory for the buffer");
+    for (size_t i = 0; i < size; i++) lent[i] = before[i] = other[i] = (unsigned char)(7 * i + 3);
+    uint64_t answer = shell_write_cases(lent, room, groups, numbers, w[0], w[1], w[2], w[3], w[4], w[5], w[6], w[7], has, p);
+    if (n == 1) {
+        uint64_t sx = groups[0], kind = groups[1], x = groups[2], y = groups[3], tau = groups[4];
+        uint64_t alone = kind && has ? shell_write_wind_inner(other, room, w[0], w[1], w[2], w[3], w[4], w[5], w[6], sx, x, y, tau, w[7], p)
+                         : kind      ? shell_write_wind(other, room, w[0], w[1], w[2], w[3], w[4], w[5], w[6], sx, x, y, tau, w[7])
+                         : has       ? shell_write_inner(other, room, w[0], w[1], w[2], w[3], w[4], w[5], w[6], sx, x, tau, w[7], p)
+                                     : shell_write(other, room, w[0], w[1], w[2], w[3], w[4], w[5], w[6], sx, x, tau, w[7]);
+        if (alone != answer || memcmp(lent, other, size)) broken("two calls that write differ");
+    }
     size_t put = shell_written(answer);
-    int kept = !memcmp(lent + put, before + put, size - put);
+    int kept = !memcmp(lent + put, before + put, size - put) && !memcmp(groups, given_groups, listed);
     if (put) {
         printf("B %zu ", put);
         for (size_t i = 0; i < put; i++) printf("%02x", lent[i]);
@@ -140,6 +154,9 @@ static void writer(void) {
     }
     free(lent);
     free(before);
+    free(other);
+    free(groups);
+    free(given_groups);
 }
 
 enum { MOST_PLATES = 1 << 20 };

@@ -2,7 +2,7 @@
 use mathlib.Core.Path.{_≡_, refl, ap}
 use mathlib.Core.Logic.{_⊎_, inl, inr}
 use mathlib.Core.List.{List}
-use Prim.Native.Nat.{ℕ, _≤_}
+use Prim.Native.Nat.{ℕ}
 use native.Mathlib.Omega.{arith}
 use Rattle.answer.specs.declared.Judgement.{Judgement}
 use Rattle.answer.specs.declared.Answer.{Answer}
@@ -35,7 +35,7 @@ module _ (ks : List Check) (Claim : Judgement → Type 0) where
   pub refused-among : (n : ℕ) → RightBy ks Claim (Refused n) → Among n (numbers ks)
   refused-among n (refused _ f) = first-among ks n f
 
-  -- L and U fit the number of an answer, if the claim limits them
-  pub right-bounded : ((j : Judgement) → Claim j → (j .low ≤ 20000) × (j .high ≤ 20000)) → (a : Answer) → RightBy ks Claim a → Bounded a
+  -- L, U and the case fit the number of an answer, if the claim limits them
+  pub right-bounded : ((j : Judgement) → Claim j → Bounded (Judged j)) → (a : Answer) → RightBy ks Claim a → Bounded a
   right-bounded limit _ (refused n f) = tt
   right-bounded limit _ (judged j all c v) = limit j c

@@ -19,11 +19,15 @@ firstOr f a (k ∷ ks) = pick (k .passed) (firstOr f a ks) (f (k .refusal))
 abbrev pub refusalBy : List Check → ℕ
 refusalBy ks = firstOr (λ n. n) 0 ks
 
--- the judgement by L and U
-abbrev pub judgementOf : ℕ → ℕ → Judgement
-judgementOf L U = record { verdict = verdictOf L U; low = L; high = U }
+-- the judgement of a load case
+abbrev pub ofCase : ℕ → Judgement → Judgement
+ofCase n j = record { verdict = j .verdict; low = j .low; high = j .high; case = n }
 
--- L and U are at most 20,000, so that the number of the answer fits a u64
+-- the judgement by L and U, of the first load case
+abbrev pub judgementOf : ℕ → ℕ → Judgement
+judgementOf L U = record { verdict = verdictOf L U; low = L; high = U; case = 1 }
+
+-- L and U are at most 20,000, and the case is from 1 to 8, so that the number of the answer fits a u64 and tells all four
 abbrev pub Bounded : Answer → Type 0
 Bounded (Refused n) = Unit {0}
-Bounded (Judged j) = (j .low ≤ 20000) × (j .high ≤ 20000)
+Bounded (Judged j) = (j .low ≤ 20000) × (j .high ≤ 20000) × (1 ≤ j .case) × (j .case ≤ 8)

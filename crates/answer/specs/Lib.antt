@@ -1,5 +1,6 @@
--- To be believed, beside docs/SCOPE.md: Answers, Checks, Right.
+-- To be believed, beside docs/SCOPE.md: Answers, Governing, Checks, Right.
 pub mod Answers
+pub mod Governing
 pub mod Checks
 pub mod Right
 -- Nobody has to believe it, how the program answers: `first-or` (proofs/Checks.antt) says what it gives, and `answer-by-right`

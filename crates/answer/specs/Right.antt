@@ -13,6 +13,10 @@ pub data RightBy (list : List Check) (Claim : Judgement → Type 0) : Answer →
   refused : (n : ℕ) → FirstBroken list n → RightBy list Claim (Refused n)
   judged : (j : Judgement) → AllPassed list → Claim j → j .verdict ≡ verdictOf (j .low) (j .high) → RightBy list Claim (Judged j)
 
+-- a claim about a judgement, and that it is that of the load case n
+abbrev pub AsCase : ℕ → (Judgement → Type 0) → Judgement → Type 0
+AsCase n Claim j = Claim j × (j .case ≡ n)
+
 -- n is the number of an answer that is correct
 pub record NumberOfRight (Correct : Answer → Type 0) (n : ℕ) : Type 0 where
   pub answer : Answer

@@ -1,8 +1,10 @@
 // The answer to a record: a refusal, or a judgement with its verdict and bounds; and the one number that stands for it in C.
 ghost use mathlib.Core.Path.{_≡_};
 ghost use Prim.Native.Nat.{_+_, _*_, _≤_};
-ghost use Rattle.answer.specs.Answers.{verdictNumber, answerNumber};
-ghost use Rattle.answer.specs.Answering.{judgementOf, Bounded};
+ghost use Rattle.answer.specs.declared.Answer.the-variants.{Judged};
+ghost use Rattle.answer.specs.Answers.{verdictNumber, judgementNumber, answerNumber};
+ghost use Rattle.answer.specs.Governing.{severityOf, worseOf};
+ghost use Rattle.answer.specs.Answering.{judgementOf, ofCase, Bounded};
 
 // What is said of a shell.
 pub enum Verdict {
@@ -11,11 +13,12 @@ pub enum Verdict {
     Open,
 }
 
-// A judged record: the verdict, and L and U in ten-thousandths.
+// A judged record: the verdict, L and U in ten-thousandths, and the load case that governs, counted from 1.
 pub struct Judgement {
     pub verdict: Verdict,
     pub low: u64,
     pub high: u64,
+    pub case: u64,
 }
 
 // The answer to a record: the number of the first check that it breaks, or the judgement.
@@ -35,6 +38,17 @@ impl Verdict {
             Verdict::Open => 3,
         }
     }
+
+    // How bad it is: fails is the worst, then open, then holds.
+    fn severity(self) -> u64
+        ensures { λ r. ⌜ r ≡ severityOf self ⌝ }
+    {
+        match self {
+            Verdict::Holds => 0,
+            Verdict::Open => 1,
+            Verdict::Fails => 2,
+        }
+    }
 }
 
 impl Judgement {
@@ -47,6 +61,7 @@ impl Judgement {
                 verdict: Verdict::Holds,
                 low,
                 high,
+                case: 1,
             };
         }
         if 10000 < low {
@@ -54,22 +69,52 @@ impl Judgement {
                 verdict: Verdict::Fails,
                 low,
                 high,
+                case: 1,
             };
         }
         Judgement {
             verdict: Verdict::Open,
             low,
             high,
+            case: 1,
         }
     }
 
-    // Verdict, L and U in one number.
-    fn number(self) -> u64
-        requires { ⌜ (self .low ≤ 20000) × (self .high ≤ 20000) ⌝ }
-        ensures { λ r. ⌜ r ≡ 10000000000 * verdictNumber (self .verdict) + 100000 * self .low + self .high ⌝ }
+    // The same judgement, of another load case.
+    pub fn of_case(self, case: u64) -> Self
+        ensures { λ r. ⌜ r ≡ ofCase case self ⌝ }
     {
         let verdict = self.verdict;
-        10000000000 * verdict.number() + 100000 * self.low + self.high
+        Judgement {
+            verdict,
+            low: self.low,
+            high: self.high,
+            case,
+        }
+    }
+
+    // The one of two that governs: the other only if its verdict is worse.
+    pub fn or_worse(self, other: Self) -> Self
+        ensures { λ r. ⌜ r ≡ worseOf self other ⌝ }
+    {
+        let mine = self.verdict;
+        let theirs = other.verdict;
+        if mine.severity() < theirs.severity() {
+            return other;
+        }
+        self
+    }
+
+    // Load case, verdict, L and U in one number.
+    fn number(self) -> u64
+        requires { ⌜ Bounded (Judged self) ⌝ }
+        ensures { λ r. ⌜ r ≡ judgementNumber self ⌝ }
+    {
+        let verdict = self.verdict;
+        100000000000 * (self.case - 1)
+            + 10000000000 * verdict.number()
+            + 100000 * self.low
+            + self.high
     }
 }
 

@@ -20,10 +20,11 @@ use Rattle.ideal.specs.Decision.{cutOf}
 use Rattle.lengths.specs.Short.{shortOf}
 use Rattle.bounds.specs.Sides.{Sides}
 use Rattle.bounds.specs.declared.Limits.{Limits}
-use Rattle.term.specs.TermOf.{Lies2, termOf}
+use Rattle.term.specs.TermOf.{termOf}
 use Rattle.term.specs.declared.Branches.{Branches}
 use Rattle.term.proofs.Terms as terms
 use Rattle.cylinder.specs.WholeCurves.{part1, part2}
+use Rattle.bounds.specs.Spot.{LiesFor}
 use Rattle.bounds.specs.Stresses.{slendernessOf, part1Of, part2Of, termFor, lowOf, Reads}
 
 -- the branch by length is that of the slenderness
@@ -39,26 +40,23 @@ part1-is l a = rw (a .within-two-fifths, a .reaches-six-fifths)
 part2-is : {c : Cut} (l : Limits) → Sides c l → part2Of l ≡ part2 c
 part2-is l a = rw (a .within-quarter, a .within-one, a .within-three-halves)
 
-pub axial-lies : {c : Cut} (l : Limits) (b : Branches) → Sides c l → Reads Axial l b → Lies2 c b
-axial-lies l b a r =
+pub lies-for : (kind : Stress) {c : Cut} (l : Limits) (b : Branches) → Sides c l → Reads kind l b → LiesFor kind c b
+lies-for Axial l b a r =
     record {
       part = r .part ∙ part2-is l a;
       long = r .long ∙ a .reaches-three-halves;
       near = r .near ∙ a .within-quarter;
       far = r .far ∙ a .reaches-two;
     }
+lies-for Ring l b a r = record { part = r .part ∙ part1-is l a; long = r .long ∙ a .reaches-three-halves }
+lies-for Shear l b a r = record { part = r .part ∙ part1-is l a; long = r .long ∙ a .reaches-three-halves }
 
--- the term in the branches that were read is the shell's
-pub term-is : (kind : Stress) (s : Cylinder) (num den : ℕ) (l : Limits) (b : Branches) → Sides (slendernessOf kind s) l → Reads kind l b →
+-- the term in these branches is the shell's
+pub term-is : (kind : Stress) (s : Cylinder) (num den : ℕ) (b : Branches) → LiesFor kind (slendernessOf kind s) b →
     termOf kind b (s .«yield_stress») num den (excess s) ≡ termFor kind s (num // den)
-term-is Axial s num den l b a r =
-    terms.axial-is s (num // den) b (axial-lies l b a r)
-term-is Ring s num den l b a r =
-    terms.ring-is s (num // den) b
-    (record { part = r .part ∙ part1-is l a; long = r .long ∙ a .reaches-three-halves })
-term-is Shear s num den l b a r =
-    terms.shear-is s (num // den) b
-    (record { part = r .part ∙ part1-is l a; long = r .long ∙ a .reaches-three-halves })
+term-is Axial s num den b o = terms.axial-is s (num // den) b o
+term-is Ring s num den b o = terms.ring-is s (num // den) b o
+term-is Shear s num den b o = terms.shear-is s (num // den) b o
 
 rise-some : (kind : Stress) (s : Cylinder) (σ : Fraction) → termFor kind s σ .rise ≢ 0
 rise-some Axial s σ e = omega arith

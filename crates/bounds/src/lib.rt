@@ -1,6 +1,7 @@
 // Bounds of the exact sum (50) of a cylinder: the place of each related slenderness S on a grid and the branches of the curves in which it lies,
-// each term from below by one rule, and L and U from the terms.
+// each term from below by one rule, and L and U from the terms. The places depend on the cylinder alone, so several loads share them.
 ghost use mathlib.Core.Path.{_≡_};
+ghost use mathlib.Core.Bool.{true};
 ghost use lib.Dec.{leb};
 ghost use Prim.Native.Nat.{_+_, _*_, _/_, _≤_, _<_, min};
 ghost use Rattle.wide.specs.Value.{base};
@@ -13,7 +14,7 @@ ghost use Rattle.lengths.specs.Short.{shortOf};
 ghost use Rattle.ideal.specs.Decision.{cutOf};
 ghost use Rattle.bounds.specs.Ready.{Ready};
 ghost use Rattle.bounds.specs.Sides.{Sides};
-ghost use Rattle.bounds.specs.Spot.{SpotOf};
+ghost use Rattle.bounds.specs.Spot.{SpotOf, SpotsFor};
 ghost use Rattle.bounds.specs.Stresses.{part1Of, part2Of, partFor, partOf, Reads, SmallParts, Small, lowOf, pairOf, fractionOf};
 use cylinder::Cylinder;
 use cylinder::Stress;
@@ -33,11 +34,18 @@ pub struct Bounds {
     pub high: u64,
 }
 
-// Where S lies for axial stress: from at/grid to (at + 1)/grid, in these branches of the curves.
+// Where S lies for a stress: from at/grid to (at + 1)/grid, in these branches of the curves.
 pub struct Spot {
     pub grid: u64,
     pub at: u64,
     pub branches: Branches,
+}
+
+// That for each stress.
+pub struct Spots {
+    pub axial: Spot,
+    pub ring: Spot,
+    pub shear: Spot,
 }
 
 // S lies from at/grid to (at + 1)/grid.
@@ -53,7 +61,7 @@ struct Prepared {
     near: u64,
 }
 
-// That of a stress above 0.
+// That for a stress.
 fn prepare(roots: &[u8; 1024], kind: Stress, s: Cylinder) -> Prepared
     requires { ⌜ (InLimits s) × RootTable (now roots) ⌝ }
     ensures { λ r. ⌜ Ready kind s r ⌝ }
@@ -64,12 +72,12 @@ fn prepare(roots: &[u8; 1024], kind: Stress, s: Cylinder) -> Prepared
     Prepared { short, terms, near }
 }
 
-// Nothing is prepared for a stress of 0.
-fn prepare_for(roots: &[u8; 1024], kind: Stress, s: Cylinder, load: Load) -> Prepared
+// Nothing is prepared for a stress that is not wanted.
+fn prepare_for(roots: &[u8; 1024], kind: Stress, s: Cylinder, wanted: bool) -> Prepared
     requires { ⌜ (InLimits s) × RootTable (now roots) ⌝ }
-    ensures { λ r. ⌜ (0 < load .num → Ready kind s r) ⌝ }
+    ensures { λ r. ⌜ (wanted ≡ true → Ready kind s r) ⌝ }
 {
-    if 0 < load.num {
+    if wanted {
         return prepare(roots, kind, s);
     }
     let none = interval::of(0);
@@ -223,15 +231,62 @@ pub fn excess(s: Cylinder) -> u64
     }
 }
 
+// Where S lies for a stress.
+fn spot_of(roots: &[u8; 1024], kind: Stress, s: Cylinder, p: Prepared) -> Spot
+    requires { ⌜ (InLimits s) × (Ready kind s p) × RootTable (now roots) ⌝ }
+    ensures { λ r. ⌜ SpotOf kind s r ⌝ }
+{
+    let k = place(roots, kind, s, p);
+    let l = branches(kind, p.short, s, k);
+    let grid = k.grid;
+    let at = k.at;
+    let branches = branches_for(kind, l);
+    Spot { grid, at, branches }
+}
+
+// Nothing is looked for where a stress is not wanted.
+fn spot_for(roots: &[u8; 1024], kind: Stress, s: Cylinder, wanted: bool, p: Prepared) -> Spot
+    requires { ⌜ (InLimits s) × (wanted ≡ true → Ready kind s p) × RootTable (now roots) ⌝ }
+    ensures { λ r. ⌜ (wanted ≡ true → SpotOf kind s r) ⌝ }
+{
+    if wanted {
+        return spot_of(roots, kind, s, p);
+    }
+    let branches = Branches {
+        part: Part::Plateau,
+        long: false,
+        near: false,
+        far: false,
+    };
+    Spot {
+        grid: 0,
+        at: 0,
+        branches,
+    }
+}
+
+// Where S lies for each stress that is wanted.
+pub fn spots_for(roots: &[u8; 1024], s: Cylinder, axial: bool, ring: bool, shear: bool) -> Spots
+    requires { ⌜ (InLimits s) × RootTable (now roots) ⌝ }
+    ensures { λ r. ⌜ SpotsFor s (axial ≡ true) (ring ≡ true) (shear ≡ true) r ⌝ }
+{
+    // all guesses first: none waits for another
+    let x = prepare_for(roots, Stress::Axial, s, axial);
+    let y = prepare_for(roots, Stress::Ring, s, ring);
+    let z = prepare_for(roots, Stress::Shear, s, shear);
+    Spots {
+        axial: spot_for(roots, Stress::Axial, s, axial, x),
+        ring: spot_for(roots, Stress::Ring, s, ring, y),
+        shear: spot_for(roots, Stress::Shear, s, shear, z),
+    }
+}
+
 // The term of a stress above 0 from below, in millionths, up to 2,000,000.
-fn lowest(roots: &[u8; 1024], kind: Stress, s: Cylinder, num: u64, den: u64, p: Prepared) -> u64
-    requires { ⌜ (InLimits s) × (SmallParts num den) × (Ready kind s p) × RootTable (now roots) ⌝ }
+fn lowest(roots: &[u8; 1024], kind: Stress, s: Cylinder, num: u64, den: u64, p: Spot) -> u64
+    requires { ⌜ (InLimits s) × (SmallParts num den) × (SpotOf kind s p) × RootTable (now roots) ⌝ }
     ensures { λ r. ⌜ r ≡ lowOf kind s num den ⌝ }
 {
-    let short = p.short;
-    let p = place(roots, kind, s, p);
-    let l = branches(kind, short, s, p);
-    let b = branches_for(kind, l);
+    let b = p.branches;
     term::low(
         roots,
         kind,
@@ -245,24 +300,9 @@ fn lowest(roots: &[u8; 1024], kind: Stress, s: Cylinder, num: u64, den: u64, p: 
     )
 }
 
-// Where S lies for axial stress.
-pub fn axial_spot(s: Cylinder) -> Spot
-    requires { ⌜ InLimits s ⌝ }
-    ensures { λ r. ⌜ SpotOf s r ⌝ }
-{
-    let roots = guess::root_table();
-    let p = prepare(&roots, Stress::Axial, s);
-    let k = place(&roots, Stress::Axial, s, p);
-    let l = branches(Stress::Axial, p.short, s, k);
-    let grid = k.grid;
-    let at = k.at;
-    let branches = branches_for(Stress::Axial, l);
-    Spot { grid, at, branches }
-}
-
 // The term of a stress in millionths: 0 for a stress of 0, else less than 2 over its low bound.
-fn term_bounds(roots: &[u8; 1024], kind: Stress, s: Cylinder, load: Load, p: Prepared) -> Bounds
-    requires { ⌜ (InLimits s) × (Small load) × (0 < load .num → Ready kind s p) × RootTable (now roots) ⌝ }
+fn term_bounds(roots: &[u8; 1024], kind: Stress, s: Cylinder, load: Load, p: Spot) -> Bounds
+    requires { ⌜ (InLimits s) × (Small load) × (0 < load .num → SpotOf kind s p) × RootTable (now roots) ⌝ }
     ensures { λ r. ⌜ (r .low ≡ pairOf kind s load .low) × (r .high ≡ pairOf kind s load .high) × (r .low ≤ 2000000) × (r .high ≤ 2000002) ⌝ }
 {
     if load.num == 0 {
@@ -280,14 +320,20 @@ fn capped(x: u64) -> u64
 }
 
 // The three terms together, in millionths.
-fn in_millionths(roots: &[u8; 1024], s: Cylinder, axial: Load, ring: Load, shear: Load) -> Bounds
-    requires { ⌜ (InLimits s) × (Small axial) × (Small ring) × (Small shear) × RootTable (now roots) ⌝ }
+fn in_millionths(
+    roots: &[u8; 1024],
+    s: Cylinder,
+    p: Spots,
+    axial: Load,
+    ring: Load,
+    shear: Load,
+) -> Bounds
+    requires { ⌜ (InLimits s) × (Small axial) × (Small ring) × (Small shear) × (SpotsFor s (0 < axial .num) (0 < ring .num) (0 < shear .num) p) × RootTable (now roots) ⌝ }
     ensures { λ r. ⌜ (r .low ≡ pairOf Axial s axial .low + pairOf Ring s ring .low + pairOf Shear s shear .low) × (r .high ≡ pairOf Axial s axial .high + pairOf Ring s ring .high + pairOf Shear s shear .high) × (r .low ≤ 6000000) × (r .high ≤ 6000006) ⌝ }
 {
-    // all guesses first: none waits for another
-    let x = prepare_for(roots, Stress::Axial, s, axial);
-    let y = prepare_for(roots, Stress::Ring, s, ring);
-    let z = prepare_for(roots, Stress::Shear, s, shear);
+    let x = p.axial;
+    let y = p.ring;
+    let z = p.shear;
     let a = term_bounds(roots, Stress::Axial, s, axial, x);
     let r = term_bounds(roots, Stress::Ring, s, ring, y);
     let h = term_bounds(roots, Stress::Shear, s, shear, z);
@@ -297,15 +343,32 @@ fn in_millionths(roots: &[u8; 1024], s: Cylinder, axial: Load, ring: Load, shear
     }
 }
 
-// L and U of a cylinder under three stresses, with some millionths more on the high side.
+// L and U of a cylinder under three stresses from the places of S, with some millionths more on the high side.
+pub fn sum_at(
+    roots: &[u8; 1024],
+    s: Cylinder,
+    p: Spots,
+    axial: Load,
+    ring: Load,
+    shear: Load,
+    more: u64,
+) -> Bounds
+    requires { ⌜ (InLimits s) × (Small axial) × (Small ring) × (Small shear) × (more ≤ 95) × (SpotsFor s (0 < axial .num) (0 < ring .num) (0 < shear .num) p) × RootTable (now roots) ⌝ }
+    ensures { λ r. ⌜ (r .low ≡ sumBounds more s (fractionOf axial) (fractionOf ring) (fractionOf shear) .low) × (r .high ≡ sumBounds more s (fractionOf axial) (fractionOf ring) (fractionOf shear) .high) ⌝ }
+{
+    let t = in_millionths(roots, s, p, axial, ring, shear);
+    Bounds {
+        low: capped(t.low / 100),
+        high: capped((t.high + more + 99) / 100),
+    }
+}
+
+// The same for a single load.
 pub fn of_sum(s: Cylinder, axial: Load, ring: Load, shear: Load, more: u64) -> Bounds
     requires { ⌜ (InLimits s) × (Small axial) × (Small ring) × (Small shear) × (more ≤ 95) ⌝ }
     ensures { λ r. ⌜ (r .low ≡ sumBounds more s (fractionOf axial) (fractionOf ring) (fractionOf shear) .low) × (r .high ≡ sumBounds more s (fractionOf axial) (fractionOf ring) (fractionOf shear) .high) ⌝ }
 {
     let roots = guess::root_table();
-    let t = in_millionths(&roots, s, axial, ring, shear);
-    Bounds {
-        low: capped(t.low / 100),
-        high: capped((t.high + more + 99) / 100),
-    }
+    let p = spots_for(&roots, s, 0 < axial.num, 0 < ring.num, 0 < shear.num);
+    sum_at(&roots, s, p, axial, ring, shear, more)
 }

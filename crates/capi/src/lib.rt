@@ -6,6 +6,8 @@ ghost use Rattle.answer.specs.Answers.{answerNumber};
 ghost use Rattle.answer.specs.Right.{NumberOfRight};
 ghost use Rattle.record.specs.declared.Ring.the-variants.{Stress, Wind};
 ghost use Rattle.record.specs.declared.Inner.the-variants.{Given};
+ghost use Rattle.cases.specs.Cases.{oneCase};
+ghost use Rattle.cases.specs.Numbers.{groupsFrom, innerFrom, casesFrom};
 ghost use Rattle.record.specs.Limits.{recordOf, withInner};
 ghost use Rattle.reading.specs.Answers.{RightLine};
 ghost use Rattle.reading.specs.Answering.{answerTo};
@@ -15,12 +17,15 @@ ghost use Rattle.writer.specs.Writing.{numbered, NumberOfWriting};
 ghost use Rattle.writer.specs.Writer.{writing};
 ghost use Rattle.plates.specs.Plates.{shellOf, forcesOf, chosenNumber, NumberOfChoice};
 ghost use Rattle.plates.specs.Choosing.{plateJudgement, choosing};
+use cases::Cases;
+use cases::list_of;
 use plates::Forces;
 use plates::Shell;
 use plates::choose;
 use record::Inner;
 use record::Record;
 use record::Ring;
+use record::Wall;
 use writer::write;
 
 // The numbers of a line, but the shortfall last, and the number of the answer. Nothing is changed.
@@ -61,11 +66,11 @@ pub extern "C" fn shell_write(
     tau: u64,
     d: u64,
 ) -> u64
-    ensures { λ n. ⌜ NumberOfWriting (recordOf r t l e fy edges a sx (Stress sphi) tau d) (now (out .entry)) (now (out .exit)) n ⌝ }
-    ensures { λ n. ⌜ _≡_ {A = ℕ × List ℕ} (n, now (out .exit)) (numbered (writing (recordOf r t l e fy edges a sx (Stress sphi) tau d) (now (out .entry)))) ⌝ }
+    ensures { λ n. ⌜ NumberOfWriting (oneCase (recordOf r t l e fy edges a sx (Stress sphi) tau d)) (now (out .entry)) (now (out .exit)) n ⌝ }
+    ensures { λ n. ⌜ _≡_ {A = ℕ × List ℕ} (n, now (out .exit)) (numbered (writing (oneCase (recordOf r t l e fy edges a sx (Stress sphi) tau d)) (now (out .entry)))) ⌝ }
 {
     let c = Record::of(r, t, l, e, fy, edges, a, sx, Ring::Stress(sphi), tau, d);
-    let put = write(out, c);
+    let put = write(out, Cases::of_record(c));
     put.number()
 }
 
@@ -86,11 +91,11 @@ pub extern "C" fn shell_write_wind(
     tau: u64,
     d: u64,
 ) -> u64
-    ensures { λ n. ⌜ NumberOfWriting (recordOf r t l e fy edges a sx (Wind w v) tau d) (now (out .entry)) (now (out .exit)) n ⌝ }
-    ensures { λ n. ⌜ _≡_ {A = ℕ × List ℕ} (n, now (out .exit)) (numbered (writing (recordOf r t l e fy edges a sx (Wind w v) tau d) (now (out .entry)))) ⌝ }
+    ensures { λ n. ⌜ NumberOfWriting (oneCase (recordOf r t l e fy edges a sx (Wind w v) tau d)) (now (out .entry)) (now (out .exit)) n ⌝ }
+    ensures { λ n. ⌜ _≡_ {A = ℕ × List ℕ} (n, now (out .exit)) (numbered (writing (oneCase (recordOf r t l e fy edges a sx (Wind w v) tau d)) (now (out .entry)))) ⌝ }
 {
     let c = Record::of(r, t, l, e, fy, edges, a, sx, Ring::Wind(w, v), tau, d);
-    let put = write(out, c);
+    let put = write(out, Cases::of_record(c));
     put.number()
 }
 
@@ -155,11 +160,11 @@ pub extern "C" fn shell_write_inner(
     d: u64,
     p: u64,
 ) -> u64
-    ensures { λ n. ⌜ NumberOfWriting (withInner (Given p) (recordOf r t l e fy edges a sx (Stress sphi) tau d)) (now (out .entry)) (now (out .exit)) n ⌝ }
-    ensures { λ n. ⌜ _≡_ {A = ℕ × List ℕ} (n, now (out .exit)) (numbered (writing (withInner (Given p) (recordOf r t l e fy edges a sx (Stress sphi) tau d)) (now (out .entry)))) ⌝ }
+    ensures { λ n. ⌜ NumberOfWriting (oneCase (withInner (Given p) (recordOf r t l e fy edges a sx (Stress sphi) tau d))) (now (out .entry)) (now (out .exit)) n ⌝ }
+    ensures { λ n. ⌜ _≡_ {A = ℕ × List ℕ} (n, now (out .exit)) (numbered (writing (oneCase (withInner (Given p) (recordOf r t l e fy edges a sx (Stress sphi) tau d))) (now (out .entry)))) ⌝ }
 {
     let bare = Record::of(r, t, l, e, fy, edges, a, sx, Ring::Stress(sphi), tau, d);
-    let put = write(out, bare.under(Inner::Given(p)));
+    let put = write(out, Cases::of_record(bare.under(Inner::Given(p))));
     put.number()
 }
 
@@ -181,10 +186,63 @@ pub extern "C" fn shell_write_wind_inner(
     d: u64,
     p: u64,
 ) -> u64
-    ensures { λ n. ⌜ NumberOfWriting (withInner (Given p) (recordOf r t l e fy edges a sx (Wind w v) tau d)) (now (out .entry)) (now (out .exit)) n ⌝ }
-    ensures { λ n. ⌜ _≡_ {A = ℕ × List ℕ} (n, now (out .exit)) (numbered (writing (withInner (Given p) (recordOf r t l e fy edges a sx (Wind w v) tau d)) (now (out .entry)))) ⌝ }
+    ensures { λ n. ⌜ NumberOfWriting (oneCase (withInner (Given p) (recordOf r t l e fy edges a sx (Wind w v) tau d))) (now (out .entry)) (now (out .exit)) n ⌝ }
+    ensures { λ n. ⌜ _≡_ {A = ℕ × List ℕ} (n, now (out .exit)) (numbered (writing (oneCase (withInner (Given p) (recordOf r t l e fy edges a sx (Wind w v) tau d))) (now (out .entry)))) ⌝ }
 {
     let bare = Record::of(r, t, l, e, fy, edges, a, sx, Ring::Wind(w, v), tau, d);
-    let put = write(out, bare.under(Inner::Given(p)));
+    let put = write(out, Cases::of_record(bare.under(Inner::Given(p))));
+    put.number()
+}
+
+// The pressure inside, or none where there is no group for it.
+fn inner_of(has: u64, p: u64) -> Inner
+    ensures { λ r. ⌜ r ≡ innerFrom has p ⌝ }
+{
+    if has == 0 {
+        return Inner::Missing;
+    }
+    Inner::Given(p)
+}
+
+// A wall, load cases as a list of five numbers each, a pressure where has is not 0, and the number of the writer's answer: as shell_write.
+#[no_mangle]
+pub extern "C" fn shell_write_cases(
+    out: &mut [u8],
+    groups: &[u64],
+    r: u64,
+    t: u64,
+    l: u64,
+    e: u64,
+    fy: u64,
+    edges: u64,
+    a: u64,
+    d: u64,
+    has: u64,
+    p: u64,
+) -> u64
+    ensures { λ n. ⌜ NumberOfWriting (casesFrom r t l e fy edges a d (groupsFrom (now (groups .entry))) (innerFrom has p)) (now (out .entry)) (now (out .exit)) n ⌝ }
+    ensures { λ n. ⌜ _≡_ {A = ℕ × List ℕ} (n, now (out .exit)) (numbered (writing (casesFrom r t l e fy edges a d (groupsFrom (now (groups .entry))) (innerFrom has p)) (now (out .entry)))) ⌝ }
+{
+    let wall = Wall {
+        radius: r,
+        thickness: t,
+        length: l,
+        modulus: e,
+        yield_stress: fy,
+        edges,
+        imperfection: a,
+        shortfall: d,
+    };
+    let inner = inner_of(has, p);
+    let found = list_of(groups);
+    let groups = found.groups;
+    let count = found.count;
+    let c = Cases {
+        wall,
+        groups,
+        count,
+        inner,
+    };
+    let put = write(out, c);
     put.number()
 }

@@ -22,10 +22,10 @@ use Rattle.cylinder.proofs.Bounds.{Point, Raised, raise, le-le, lt-le, 
 use Rattle.cylinder.proofs.Branches.{Same2, same2, tolerance-falls, tolerance-den, tolerance-slow}
 
 -- the part of the curve, by the answers at 0.25, 1 and 1.5
-abbrev choice : Bool → Bool → Bool → Part
+abbrev pub choice : Bool → Bool → Bool → Part
 choice a b c = pick a plateau (pick b line (pick c cubic quadratic))
 
-reduction-falls : (c : Part) → Falls (reduction2 c)
+pub reduction-falls : (c : Part) → Falls (reduction2 c)
 reduction-falls plateau = constant-falls 1 1
 reduction-falls line = falling-falls 1233 933 1000
 reduction-falls cubic = inverse-falls 3 30 100
@@ -42,7 +42,7 @@ factor2-falls s e =
     (times-falls (reduction2 (part2 s)) (toleranceFactor (long s) e) (reduction-falls (part2 s)) (tolerance-falls (long s) e))
     (safety-falls (s .within 25 100) (s .reaches 2 1))
 
-reduction-den : (a b c : Bool) (p q : ℕ) → 0 < q → (b ≡ false → 0 < p) → 0 < reduction2 (choice a b c) .den p q
+pub reduction-den : (a b c : Bool) (p q : ℕ) → 0 < q → (b ≡ false → 0 < p) → 0 < reduction2 (choice a b c) .den p q
 reduction-den true b c p q pos some = lit< tt
 reduction-den false true c p q pos some = mul-pos {m = 1000} (lit< tt) pos
 reduction-den false false true p q pos some = mul-pos {m = 100} (lit< tt) (one-le-pow 3 p (some refl))
@@ -64,7 +64,7 @@ module _ (s : Cut) (law : Lawful s) (k q v : ℕ) (at : Placed s k q v) where
   over-1 e = placed-from s law k q v at 1 1 20 (lit< tt) refl (reaches-over s law 1 1 (lit< tt) e)
 
   -- raised over 0.25, then over 1, then over 1.5
-  point : Point s (Same2 s) k q
+  pub point : Point s (Same2 s) k q
   point =
       let u : Raised s k q 25 100 = raise s law k q 25 100 (grid-pos s law k q v at) (lit< tt) (at .reached) in
       let w : Raised s (u .p) (u .r) 1 1 = raise s law (u .p) (u .r) 1 1 (u .positive) (lit< tt) (u .reached) in
@@ -88,7 +88,7 @@ module _ (s : Cut) (law : Lawful s) (k q v : ℕ) (at : Placed s k q v) where
       }
 
   -- the straight and the cubic part end before 2, so the grid is the finer one there
-  reduction-slow : (a b c : Bool) → s .within 1 1 ≡ b → s .within 15 10 ≡ c → (2 * q ≤ k * 1) ⊎ (10000000 ≤ v) → Slow 5000000 5000001 (reduction2 (choice a b c)) k q
+  pub reduction-slow : (a b c : Bool) → s .within 1 1 ≡ b → s .within 15 10 ≡ c → (2 * q ≤ k * 1) ⊎ (10000000 ≤ v) → Slow 5000000 5000001 (reduction2 (choice a b c)) k q
   reduction-slow true b c e f g = constant-slow 1 1 5000000 k q
   reduction-slow false true c e f (inl g) = absurd (let near = law .meet k q 1 1 (at .reached) e in omega (arith, near, g, at .grid, at .fine))
   reduction-slow false true c e f (inr g) =

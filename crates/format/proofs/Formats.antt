@@ -1,7 +1,7 @@
 -- The laws of a format, that is of what is written and what is read: reading is the inverse of writing; and each composition keeps them.
 -- Assumes nothing.
 use mathlib.Core.Path.{_≡_, refl, sym, ap, _∙_, subst}
-use Prim.Native.Nat.{ℕ, _<_}
+use Prim.Native.Nat.{ℕ, zero, suc, _≤_, _<_}
 use native.Mathlib.Omega.{arith}
 use mathlib.Core.Bool.{Bool, true, false}
 use mathlib.Core.List.{List, [], _∷_, _++_, append-assoc, append-nil}
@@ -19,7 +19,8 @@ use Rattle.word.specs.Numbers.{numberOf}
 use Rattle.word.specs.declared.Numeral.{Numeral}
 use Rattle.word.specs.declared.Numeral.the-variants.{Value, Missing}
 use Rattle.word.proofs.Decimal.{number-decimal, decimal-number, word-decimal}
-use Rattle.format.specs.Readers.{Found, nothing, found, Reader, on, orElse, startsWith, fixed, empty, numberFound, number, sequence, changed, oneOf, before, closed, optional, whole}
+use Rattle.format.specs.Texts.{Each, each}
+use Rattle.format.specs.Readers.{Found, nothing, found, Reader, on, orElse, startsWith, fixed, empty, numberFound, number, sequence, changed, oneOf, several, foundSome, oneTo, before, closed, optional, whole}
 
 -- values that are Small, written and followed by bytes that may follow, read as themselves; what reads is such a value's text
 pub record Format {A : Type 0} (Small : A → Type 0) (Follows : List ℕ → Type 0) (written : A → List ℕ) (read : Reader A) : Type 0 where
@@ -182,6 +183,78 @@ module _ {A B C : Type 0} {S : C → Type 0} {w : C → List ℕ} {F G : List �
           let is : h a ≡ c = cc in
           let same : r ≡ rest = cc in
           subst (λ (c : C). S c × (s ≡ w c ++ rest)) is (first .sound s a rest (e ∙ ap (λ (l : List ℕ). found a l) same))
+
+-- ---- values one after the other: one may follow another, and none is found in what follows the last
+
+module _ {A : Type 0} {S : A → Type 0} {F : List ℕ → Type 0} {w : A → List ℕ} {f : Reader A} (one : Format S F w f) where
+  abbrev Parts : ℕ → List ℕ → List A → List ℕ → Type 0
+  Parts k s l rest = ((length l ≤ k) × Each S l) × (s ≡ each w l ++ rest)
+
+  no-parts : (k : ℕ) (s : List ℕ) (l : List A) (rest : List ℕ) → found [] s ≡ found l rest → Parts k s l rest
+  no-parts k s l rest e =
+      let is : [] ≡ l = cc in
+      let same : s ≡ rest = cc in
+      subst (λ (l : List A). Parts k s l rest) is ((omega arith, tt), same)
+
+  parts : (k : ℕ) (s : List ℕ) (l : List A) (rest : List ℕ) → several k f s ≡ found l rest → Parts k s l rest
+  unfolding several
+  parts zero s l rest e = no-parts zero s l rest e
+  parts (suc k) s l rest e = go (λ r m r′ q. parts k r m r′ q) (f s) refl e
+    where
+      More : Type 0
+      More = (r : List ℕ) (m : List A) (r′ : List ℕ) → several k f r ≡ found m r′ → Parts k r m r′
+
+      next : More → (a : A) (r : List ℕ) → f s ≡ found a r → (o : Found (List A)) → several k f r ≡ o → on o (λ m rest′. found (a ∷ m) rest′) ≡ found l rest → Parts (suc k) s l rest
+      next more a r e nothing e′ q = differ l rest q
+      next more a r e (found m r′) e′ q =
+          let is : a ∷ m ≡ l = cc in
+          let same : r′ ≡ rest = cc in
+          let (small, here) = one .sound s a r e in
+          let ((few, smalls), there) = more r m r′ e′ in
+          subst (λ (l : List A). Parts (suc k) s l rest) is
+          ((omega arith, (small, smalls)), here ∙ rw (there, same) (sym (append-assoc (w a) (each w m) rest)))
+
+      go : More → (o : Found A) → f s ≡ o → orElse o (λ a rest. on (several k f rest) (λ l rest′. found (a ∷ l) rest′)) (found [] s) ≡ found l rest → Parts (suc k) s l rest
+      go more nothing e q = no-parts (suc k) s l rest q
+      go more (found a r) e q = next more a r e (several k f r) refl q
+
+  module _ (glue : (a : A) (rest : List ℕ) → S a → F rest → F (w a ++ rest)) where
+    follow : (l : List A) (rest : List ℕ) → Each S l → F rest → F (each w l ++ rest)
+    follow [] rest small follows = follows
+    follow (a ∷ l) rest small follows = rw (append-assoc (w a) (each w l) rest) (glue a (each w l ++ rest) (small .0) (follow l rest (small .1) follows))
+
+    all : (k : ℕ) (l : List A) (rest : List ℕ) → length l ≤ k → Each S l → F rest → f rest ≡ nothing → several k f (each w l ++ rest) ≡ found l rest
+    unfolding several
+    all zero [] rest few small follows end = refl
+    all zero (a ∷ l) rest few small follows end = absurd (omega arith)
+    all (suc k) [] rest few small follows end = rw end refl
+    all (suc k) (a ∷ l) rest few small follows end =
+        rw (append-assoc (w a) (each w l) rest, one .complete a (each w l ++ rest) (small .0) (follow l rest (small .1) follows), all k l rest (omega arith) (small .1) follows end) refl
+
+    pub format-several : (k : ℕ) → Format (λ l. (length l ≤ k) × Each S l) (λ rest. F rest × (f rest ≡ nothing)) (each w) (several k f)
+    format-several k =
+        record {
+          complete = λ l rest small follows. all k l rest (small .0) (small .1) (follows .0) (follows .1);
+          sound = λ s l rest e. parts k s l rest e;
+        }
+
+    pub format-one-to : (k : ℕ) → Format (λ l. (1 ≤ length l) × (length l ≤ k) × Each S l) (λ rest. F rest × (f rest ≡ nothing)) (each w) (oneTo k f)
+    unfolding oneTo
+    format-one-to k = record { complete = whole; sound = λ s l rest e. go s l rest (several k f s) refl e }
+      where
+        whole : (l : List A) (rest : List ℕ) → (1 ≤ length l) × (length l ≤ k) × Each S l → F rest × (f rest ≡ nothing) → on (several k f (each w l ++ rest)) foundSome ≡ found l rest
+        whole [] rest small follows = absurd (omega arith)
+        whole (a ∷ l) rest small follows = rw (all k (a ∷ l) rest (small .1) (small .2) (follows .0) (follows .1)) refl
+
+        go : (s : List ℕ) (l : List A) (rest : List ℕ) (o : Found (List A)) → several k f s ≡ o → on o foundSome ≡ found l rest
+            → ((1 ≤ length l) × (length l ≤ k) × Each S l) × (s ≡ each w l ++ rest)
+        go s l rest nothing e q = differ l rest q
+        go s l rest (found [] r) e q = differ l rest q
+        go s l rest (found (a ∷ m) r) e q =
+            let is : a ∷ m ≡ l = cc in
+            let ((few, small), here) = parts k s l rest (e ∙ q) in
+            let some : 1 ≤ length l = omega (arith, ap length is) in
+            ((some, few, small), here)
 
 -- ---- the same format, said in other words
 

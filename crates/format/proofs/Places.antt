@@ -1,20 +1,21 @@
 -- What is found at places composes as the readers do: for each composition one law of what is found and one of what is not.
 -- Assumes nothing.
 use mathlib.Core.Path.{_≡_, refl, sym, ap, _∙_, subst}
-use Prim.Native.Nat.{ℕ, _+_, _-_, _≤_, _<_}
+use Prim.Native.Nat.{ℕ, zero, suc, _+_, _-_, _≤_, _<_}
+use native.Mathlib.Numerals.{add-one}
 use native.Mathlib.Omega.{arith}
 use mathlib.Core.Bool.{Bool, true, false}
-use mathlib.Core.List.{List, [], _∷_}
-use lib.ListN.{length, take, drop, length-drop, drop-of-length-le}
-use lib.Seq.{drop-drop}
+use mathlib.Core.List.{List, [], _∷_, _++_, append-assoc, append-nil}
+use lib.ListN.{length, take, drop, set, length-append, length-drop, length-set, drop-of-length-le}
+use lib.Seq.{drop-drop, length-take-le, take-suc-set}
 use Rattle.text.specs.Slices.{upTo}
 use Rattle.text.proofs.Laws.{part-from, upTo-le}
 use Rattle.word.specs.Words.{endsWord}
 use Rattle.word.specs.Numbers.{numberOf}
 use Rattle.word.specs.declared.Numeral.{Numeral}
 use Rattle.word.specs.declared.Numeral.the-variants.{Value, Missing}
-use Rattle.format.specs.Readers.{Found, nothing, found, Reader, on, startsWith, number, fixed, empty, sequence, changed, oneOf, before, closed, optional, whole}
-use Rattle.format.specs.Places.{Part, part, refused, Finds, Fails, Answers, reads, refuses, fixedPart, numberPart}
+use Rattle.format.specs.Readers.{Found, nothing, found, Reader, on, startsWith, number, fixed, empty, sequence, changed, oneOf, several, oneTo, before, closed, optional, whole}
+use Rattle.format.specs.Places.{Part, part, refused, Finds, Fails, Answers, reads, refuses, fixedPart, numberPart, storedPart}
 use Rattle.format.specs.declared.FixedAt.{FixedAt}
 use Rattle.format.specs.declared.FixedAt.the-variants as FixedAt
 use Rattle.format.specs.declared.NumberAt.{NumberAt}
@@ -147,6 +148,90 @@ pub answers-before : {A : Type 0} {f : Reader A} {s : List ℕ} {at next : ℕ} 
     → Finds (fixed x) s at tt next → Answers f s next p → Answers (before x f) s at p
 answers-before x first (reads second) = reads (finds-before x first second)
 answers-before x first (refuses second) = refuses (fails-before x first second)
+
+-- ---- values one after the other
+
+module _ {A : Type 0} (f : Reader A) {s : List ℕ} {at : ℕ} where
+  finds-more : (k : ℕ) {a : A} {next : ℕ} {l : List A} {last : ℕ} → Finds f s at a next → Finds (several k f) s next l last → Finds (several (suc k) f) s at (a ∷ l) last
+  unfolding several
+  finds-more k one more = record { from = one .from; to = more .to; same = rw (one .same, more .same) refl }
+
+  finds-no-more : (k : ℕ) → at ≤ length s → (0 < k → Fails f s at) → Finds (several k f) s at [] at
+  unfolding several
+  finds-no-more zero within end = record { from = within; to = within; same = refl }
+  finds-no-more (suc k) within end = record { from = within; to = within; same = rw (end (omega arith) .none within) refl }
+
+  -- at least one
+  finds-some : (k : ℕ) (l : List A) {next : ℕ} → 0 < length l → Finds (several k f) s at l next → Finds (oneTo k f) s at l next
+  unfolding oneTo
+  finds-some k [] some of = absurd (omega arith)
+  finds-some k (a ∷ l) some of = record { from = of .from; to = of .to; same = rw (of .same) refl }
+
+  fails-some : (k : ℕ) → 0 < k → Fails f s at → Fails (oneTo k f) s at
+  unfolding oneTo
+  fails-some k some of = record { none = λ from. rw (finds-no-more k from (λ h. of) .same) refl }
+
+-- the values l stand one after the other from the place `at` to the place `next`
+pub data Row {A : Type 0} (f : Reader A) (s : List ℕ) (at : ℕ) : List A → ℕ → Type 0 where
+  none : Row f s at [] at
+  more : {l : List A} {place : ℕ} {a : A} {next : ℕ} → Row f s at l place → Finds f s place a next → Row f s at (l ++ (a ∷ [])) next
+
+module _ {A : Type 0} {f : Reader A} {s : List ℕ} {at : ℕ} where
+  -- with k more after them they are n
+  row-several : (k n : ℕ) {l : List A} {place : ℕ} {m : List A} {last : ℕ} → Row f s at l place → k + length l ≡ n → Finds (several k f) s place m last → Finds (several n f) s at (l ++ m) last
+  row-several k n {m = m} {last = last} none count of = subst (λ (n : ℕ). Finds (several n f) s at m last) (omega arith) of
+  row-several k n {m = m} (more {l = l} {a = a} row one) count of =
+      rw append-assoc (row-several (suc k) n row (omega (arith, length-append l (a ∷ []))) (finds-more f k one of))
+
+  row-to : {l : List A} {place : ℕ} → Row f s at l place → 0 < length l → place ≤ length s
+  row-to none some = absurd (omega arith)
+  row-to (more row one) some = one .to
+
+  row-first : {l : List A} {place : ℕ} → Row f s at l place → length l ≡ 0 → place ≡ at
+  row-first none e = refl
+  row-first (more {l = l} {a = a} row one) e = absurd (omega (arith, length-append l (a ∷ [])))
+
+-- ---- a loop that stores the values that it finds in an array of k places
+
+pub record Stored {A : Type 0} (f : Reader A) (k : ℕ) (s : List ℕ) (at : ℕ) (array : List A) (count next : ℕ) : Type 0 where
+  pub few : count ≤ k
+  pub size : length array ≡ k
+  pub row : Row f s at (take count array) next
+
+pub stored-none : {A : Type 0} (f : Reader A) (k : ℕ) (s : List ℕ) (at : ℕ) (array : List A) → length array ≡ k → Stored f k s at array 0 at
+stored-none f k s at array size = record { few = omega arith; size = size; row = none }
+
+module _ {A : Type 0} {f : Reader A} {k : ℕ} {s : List ℕ} {at : ℕ} {array : List A} {count next : ℕ} (stored : Stored f k s at array count next) where
+  pub stored-more : {a : A} {last : ℕ} → count < k → Finds f s next a last → Stored f k s at (set array count a) (count + 1) last
+  stored-more {a} {last} less one =
+      let grown : take (count + 1) (set array count a) ≡ take count array ++ (a ∷ []) = rw add-one (take-suc-set array count a (omega (arith, stored .size))) in
+      record { few = omega arith; size = length-set array count a ∙ stored .size; row = rw grown (more (stored .row) one) }
+
+  -- the loop ends: the array is full, or no more is found
+  pub stored-end : 0 < k → (count < k → Fails f s next) → Answers (oneTo k f) s at (storedPart array count next)
+  stored-end some end = go count refl
+    where
+      many : length (take count array) ≡ count
+      many = length-take-le count array (omega (arith, stored .few, stored .size))
+
+      go : (n : ℕ) → count ≡ n → Answers (oneTo k f) s at (storedPart array n next)
+      go zero e = refuses (fails-some f k some (subst (λ (n : ℕ). Fails f s n) (row-first (stored .row) (many ∙ e)) (end (omega arith))))
+      go (suc n) e =
+          let of : Finds (several (k - count) f) s next [] next = finds-no-more f (k - count) (row-to (stored .row) (omega (arith, many))) (λ h. end (omega arith)) in
+          let all : Finds (several k f) s at (take count array) next = rw append-nil at (row-several (k - count) k (stored .row) (omega (arith, many, stored .few)) of) in
+          reads (rw e at (finds-some f k (take count array) (omega (arith, many)) all))
+
+-- what such an answer says
+module _ {A : Type 0} {f : Reader (List A)} {s : List ℕ} {at : ℕ} (array : List A) (count next : ℕ) (of : Answers f s at (storedPart array count next)) where
+  pub stored-finds : (count ≡ 0 → ⊥) → Finds f s at (take count array) next
+  stored-finds n = finds of (go count n)
+    where
+      go : (m : ℕ) → (m ≡ 0 → ⊥) → storedPart array m next ≡ part (take m array) next
+      go zero n = absurd (n refl)
+      go (suc m) n = refl
+
+  pub stored-fails : count ≡ 0 → Fails f s at
+  stored-fails e = fails {n = 5} of (rw e refl)
 
 -- ---- from what the code tests
 

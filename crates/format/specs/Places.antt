@@ -1,9 +1,9 @@
 -- What a function of the code answers that reads at a place of a slice.
 -- Nobody has to believe this: proofs/Formats.antt says what the readers find.
-use Prim.Native.Nat.{ℕ, _≤_}
+use Prim.Native.Nat.{ℕ, zero, suc, _≤_}
 use mathlib.Core.Path.{_≡_}
 use mathlib.Core.List.{List}
-use lib.ListN.{length, drop}
+use lib.ListN.{length, take, drop}
 use Rattle.format.specs.Readers.{Reader, nothing, found}
 use Rattle.format.specs.declared.FixedAt.{FixedAt}
 use Rattle.format.specs.declared.FixedAt.the-variants as FixedAt
@@ -39,3 +39,8 @@ fixedPart (FixedAt.Refused n) = refused n
 abbrev pub numberPart : NumberAt → Part ℕ
 numberPart (NumberAt.Read n next) = part n next
 numberPart (NumberAt.Refused m) = refused m
+
+-- the values at the front of an array, `count` of them; where there is none, the line's refusal
+abbrev pub storedPart : {A : Type 0} → List A → ℕ → ℕ → Part (List A)
+storedPart array zero next = refused 5
+storedPart array (suc n) next = part (take (suc n) array) next

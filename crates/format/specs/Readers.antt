@@ -1,6 +1,6 @@
 -- Readers: each finds a value at the start of a list of bytes, and the bytes after it. They are composed as the text is.
 -- Nobody has to believe this: proofs/Formats.antt says what a reader finds, in terms of the text that is written.
-use Prim.Native.Nat.{ℕ}
+use Prim.Native.Nat.{ℕ, zero, suc}
 use mathlib.Core.Bool.{Bool, true, false}
 use mathlib.Core.List.{List, [], _∷_}
 use lib.ListN.{length, drop}
@@ -66,6 +66,20 @@ changed h f s = on (f s) (λ a rest. found (h a) rest)
 -- one of two kinds of a value: the first, or the second where the first finds nothing
 unfoldable pub oneOf : {A B C : Type 0} → (A → C) → (B → C) → Reader A → Reader B → Reader C
 oneOf h k f g s = orElse (f s) (λ a rest. found (h a) rest) (on (g s) (λ b rest. found (k b) rest))
+
+-- values one after the other: as many as are there, and at most k
+unfoldable pub several : {A : Type 0} → ℕ → Reader A → Reader (List A)
+several zero f s = found [] s
+several (suc k) f s = orElse (f s) (λ a rest. on (several k f rest) (λ l rest′. found (a ∷ l) rest′)) (found [] s)
+
+-- what was found, where it is not empty
+abbrev pub foundSome : {A : Type 0} → List A → List ℕ → Found (List A)
+foundSome [] rest = nothing
+foundSome (a ∷ l) rest = found (a ∷ l) rest
+
+-- the same, and at least one of them
+unfoldable pub oneTo : {A : Type 0} → ℕ → Reader A → Reader (List A)
+oneTo k f s = on (several k f s) foundSome
 
 -- the bytes w, and then a value
 abbrev pub before : {A : Type 0} → List ℕ → Reader A → Reader A

@@ -3,3 +3,4 @@ pub mod Words
 pub mod Kept
 pub mod Line
 pub mod Means
+pub mod Wanted

@@ -1,4 +1,4 @@
--- SCOPE 25.2, 25.3 and 25.10: what is said of the gain of a cylinder with internal pressure.
+-- SCOPE 25.2, 25.3 and 25.11: what is said of the gain of a cylinder with internal pressure.
 use Prim.Native.Nat.{ℕ}
 use Rattle.cylinder.specs.declared.Cylinder.{Cylinder}
 use Rattle.cylinder.specs.Resistance.{q}

@@ -9,7 +9,9 @@ use Rattle.cylinder.specs.WholeStress.{excess}
 use Rattle.cylinder.specs.Search.{Pair, grid, place, sumBounds}
 use Rattle.algebra.specs.Choice.{pick}
 use Rattle.bounds.specs.declared.Load.{Load}
+use Rattle.bounds.specs.Spot.{SpotsFor}
 use Rattle.line_bounds.specs.declared.Gain.{Gain}
+use Rattle.line_bounds.specs.declared.Worked.{Worked}
 use Rattle.line_bounds.specs.declared.Gain.the-variants.{Idle, Broken, Applies, Unclear}
 use Rattle.pressure.specs.WholeGain.{Z, fits, reduced, extra, place38, added-above, added-below, acting}
 
@@ -50,6 +52,12 @@ Little Idle = Unit {0}
 Little Broken = Unit {0}
 Little (Applies t) = t ≤ 4200000000
 Little (Unclear t) = t ≤ 4200000000
+
+-- what is worked of a cylinder and a pressure, with the places of S that are wanted
+pub record WorkedFor (s : Cylinder) (p : ℕ) (A R H : Type 0) (w : Worked) : Type 0 where
+  pub gain : w .gain ≡ gainOf s p
+  pub little : Little (w .gain)
+  pub spots : SpotsFor s A R H (w .spots)
 
 -- L and U by it
 abbrev pub boundsBy : Gain → Cylinder → Fraction → Fraction → Fraction → Pair

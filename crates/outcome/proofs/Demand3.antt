@@ -17,6 +17,7 @@ use Rattle.answer.specs.Checks.{FirstBroken, AllPassed}
 use Rattle.answer.proofs.Checks.{first-or, first-broken, all-passed, first-among, among-every}
 use Rattle.reading.specs.Answering.{answerTo}
 use Rattle.reading.proofs.Answers.{answer-right, line-means}
+use Rattle.reading.proofs.OwnLines.{by-own-lines}
 use Rattle.listing.specs.declared.Counts.{Counts}
 use Rattle.listing.specs.Listing.{entry, entries, count, counts, total, joined, listingOf}
 use Rattle.listing.proofs.Totals.{count-sum}
@@ -146,6 +147,7 @@ demand-by sheet out out′ r run =
       run = run;
       right = answer-right;
       verdict-means = λ l j e. line-means l (answerTo l) (answer-right l) j e;
+      own-lines = by-own-lines;
       read-back = λ z.
           let a = accepted sheet (length out) (run-listed answerTo sheet out r out′ run z .0) in
           run-read-back answerTo sheet out r out′ run z (omega (arith, sheet-room sheet (a .few), a .enough));

@@ -10,7 +10,7 @@ use Rattle.answer.specs.Checks.{FirstBroken, AllPassed}
 use Rattle.answer.specs.declared.Judgement.{Judgement}
 use Rattle.answer.specs.declared.Answer.{Answer}
 use Rattle.answer.specs.declared.Answer.the-variants.{Judged}
-use Rattle.reading.specs.Answers.{RightLine, MeansLine}
+use Rattle.reading.specs.Answers.{RightLine, ByOwnLines, MeansLine}
 use Rattle.listing.specs.Listing.{entry, total}
 use Rattle.outcome.specs.declared.Outcome.{Outcome}
 use Rattle.outcome.specs.Sheet.{lineAt, listingBy, sheetChecks, turnedBack, listedBy}
@@ -39,7 +39,9 @@ pub record Demand3 (rule : List ℕ → Answer) (sheet out : List ℕ) (r : Outc
   pub run : Run rule sheet out r out′
   -- the answer to a line is right, and its verdict means what is laid down of the line
   pub right : (l : List ℕ) → RightLine l (rule l)
-  pub verdict-means : (l : List ℕ) (j : Judgement) → rule l ≡ Judged j → MeansLine l (j .verdict)
+  pub verdict-means : (l : List ℕ) (j : Judgement) → rule l ≡ Judged j → MeansLine l j
+  -- each load case of a line has the verdict, L and U that the rule gives it on a line of its own, and the line those of the one that governs
+  pub own-lines : (l : List ℕ) (j : Judgement) → rule l ≡ Judged j → ByOwnLines rule l j
   pub read-back : r .refusal ≡ 0 → ReadBack rule sheet out r out′
   -- the same line is listed with the same answer, at every place of every sheet that is run
   pub same-answer : (sheet₂ out₂ out₂′ : List ℕ) (r₂ : Outcome) → Run rule sheet₂ out₂ r₂ out₂′ → r .refusal ≡ 0 → r₂ .refusal ≡ 0 →

@@ -15,8 +15,9 @@ use Rattle.cylinder.specs.Cut.{Cut, asNumber, fraction, rootOf}
 use Rattle.cylinder.specs.Resistance.{Branch2, branch2}
 use Rattle.cylinder.proofs.Lawful.{Lawful, zero-pow}
 use Rattle.cylinder.proofs.Placed.{Placed, same-reaches, same-within, grid-pos, placed-from}
-use Rattle.cylinder.proofs.Bounds.{Raised, raise, le-le, lt-le}
-use Rattle.cylinder.proofs.Branches.{same2}
+use Rattle.cylinder.proofs.Bounds.{Point, le-le, lt-le}
+use Rattle.cylinder.proofs.Branches.{Same2, same2}
+use Rattle.cylinder.proofs.Curve2.{point}
 use Rattle.pressure.specs.Gain.{BranchG, branchG}
 
 -- a fraction below a/b that s does not exceed
@@ -157,13 +158,8 @@ pub record Ceiling (s : Cut) (k q : ℕ) : Type 0 where
   pub under : p * q ≤ (k + 1) * r
 
 -- a fraction that s reaches in its branches, at or over k/q
-pub record Floor (s : Cut) (k q : ℕ) : Type 0 where
-  pub p : ℕ
-  pub r : ℕ
-  pub positive : 0 < r
-  pub reached : s .reaches p r ≡ true
-  pub inside : SameG s p r
-  pub over : k * r ≤ p * q
+abbrev pub Floor : Cut → ℕ → ℕ → Type 0
+Floor s = Point s (SameG s)
 
 module _ (s : Cut) (law : Lawful s) (k q v : ℕ) (at : Placed s k q v) where
   -- lowered to 2, then to 1.5, then to 1; 0.25 is far below
@@ -192,28 +188,18 @@ module _ (s : Cut) (law : Lawful s) (k q v : ℕ) (at : Placed s k q v) where
         under = to-k;
       }
 
-  -- raised over 0.25, then over 1, then over 1.5
+  -- the point of the curves is in the branch of the gain too
   pub floor : Floor s k q
   floor =
-      let u : Raised s k q 25 100 = raise s law k q 25 100 (grid-pos s law k q v at) (lit< tt) (at .reached) in
-      let w : Raised s (u .p) (u .r) 1 1 = raise s law (u .p) (u .r) 1 1 (u .positive) (lit< tt) (u .reached) in
-      let z : Raised s (w .p) (w .r) 15 10 = raise s law (w .p) (w .r) 15 10 (w .positive) (lit< tt) (w .reached) in
-      let from-u : u .p * z .r ≤ z .p * u .r = le-le (u .p) (u .r) (w .p) (w .r) (z .p) (z .r) (w .positive) (w .at-least) (z .at-least) in
-      let from-k : k * z .r ≤ z .p * q = le-le k q (u .p) (u .r) (z .p) (z .r) (u .positive) (u .at-least) from-u in
-      let up : (a b : ℕ) → a * q ≤ k * b → a * z .r ≤ z .p * b = λ a b h. le-le a b k q (z .p) (z .r) (grid-pos s law k q v at) h from-k in
+      let z : Point s (Same2 s) k q = point s law k q v at in
       record {
         p = z .p;
         r = z .r;
         positive = z .positive;
         reached = z .reached;
         inside =
-            sameG (branchG (exactly (z .p // z .r))) (branchG (asNumber s))
-            (same2 (branch2 (exactly (z .p // z .r))) (branch2 (asNumber s))
-            (same-within s law (z .p) (z .r) 25 100 (z .reached) (λ e. lt-le 25 100 (u .p) (u .r) (z .p) (z .r) (u .positive) (u .over e) from-u (z .positive)))
-            (same-within s law (z .p) (z .r) 1 1 (z .reached) (λ e. lt-le 1 1 (w .p) (w .r) (z .p) (z .r) (w .positive) (w .over e) (z .at-least) (z .positive)))
-            (same-within s law (z .p) (z .r) 15 10 (z .reached) (z .over))
-            (same-reaches s law (z .p) (z .r) 15 10 (z .positive) (z .reached) (λ e. up 15 10 (placed-from s law k q v at 15 10 30 (lit< tt) refl e)))
-            (same-reaches s law (z .p) (z .r) 2 1 (z .positive) (z .reached) (λ e. up 2 1 (placed-from s law k q v at 2 1 40 (lit< tt) refl e))))
-            (same-reaches s law (z .p) (z .r) 1 1 (z .positive) (z .reached) (λ e. up 1 1 (placed-from s law k q v at 1 1 20 (lit< tt) refl e)));
-        over = from-k;
+            sameG (branchG (exactly (z .p // z .r))) (branchG (asNumber s)) (z .inside)
+            (same-reaches s law (z .p) (z .r) 1 1 (z .positive) (z .reached)
+            (λ e. le-le 1 1 k q (z .p) (z .r) (grid-pos s law k q v at) (placed-from s law k q v at 1 1 20 (lit< tt) refl e) (z .over)));
+        over = z .over;
       }

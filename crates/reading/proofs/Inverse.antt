@@ -11,19 +11,21 @@ use Rattle.text.specs.Slices.{upTo}
 use Rattle.word.specs.Numbers.{numberOf, plainStart}
 use Rattle.word.specs.declared.Numeral.{Numeral}
 use Rattle.word.specs.declared.Numeral.the-variants.{Value, Missing}
+use lib.ListN.{length}
+use Prim.Native.Nat.{_≤_}
+use mathlib.Core.List.{_∷_}
+use Rattle.format.specs.Texts.{Each, each}
 use Rattle.format.specs.Readers.{nothing, startsWith, fixed, number, sequence, changed, whole}
-use Rattle.format.proofs.Formats.{Format, Kinds, Always, EndsWord, format-number, format-sequence, format-changed, format-as, format-before, format-closed, format-one-of, format-optional, Whole, spelt, unspelt, none-whole, whole-none, whole-spells, whole-means, read-whole, format-whole}
+use Rattle.format.proofs.Formats.{Format, Kinds, Always, EndsWord, format-number, format-sequence, format-changed, format-as, format-before, format-closed, format-one-of, format-one-to, format-optional, Whole, spelt, unspelt, none-whole, whole-none, whole-spells, whole-means, read-whole, format-whole}
 use Rattle.record.specs.declared.Ring.{Ring}
 use Rattle.record.specs.declared.Ring.the-variants.{Stress, Wind}
 use Rattle.record.specs.declared.Group.{Group}
 use Rattle.record.specs.declared.Inner.{Inner}
 use Rattle.record.specs.declared.Inner.the-variants as Inner
-use Rattle.record.specs.declared.Record.{Record}
-use Rattle.record.specs.Limits.{withShortfall}
-use Rattle.reading.specs.declared.Form.{Form}
-use Rattle.reading.specs.declared.Form.the-variants.{Read, Refused}
-use Rattle.reading.specs.Text.{sevenText, ringText, groupText, innerText, shellText, text, textWithoutShortfall, SmallNumber, SmallRing, SmallGroup, SmallInner, Small, Spells}
-use Rattle.reading.specs.Reading.{Shown, wallIn, windIn, groupIn, recordIn, spaced, shortfall, shown, wind, ring, group, pressure, inner, line, formOf}
+use Rattle.record.specs.declared.Wall.{Wall}
+use Rattle.cases.specs.Cases.{LoadCases}
+use Rattle.reading.specs.Text.{sevenText, ringText, groupText, groupsText, innerText, shellText, text, textWithoutShortfall, SmallNumber, SmallRing, SmallGroup, SmallGroups, SmallInner, Small, Spells}
+use Rattle.reading.specs.Reading.{Form, Read, Refused, Shown, wallIn, windIn, groupIn, casesIn, spaced, shortfall, shown, wind, ring, group, groups, pressure, inner, line, formOf}
 
 -- ---- the parts
 
@@ -108,6 +110,14 @@ format-group =
     (format-sequence format-ring (format-closed (ascii ")") (λ rest. refl) format-spaced) (λ b rest small follows. refl))
     (λ b rest small follows. refl)))
 
+-- one to eight groups: what may follow them is no group
+abbrev NoGroup : List ℕ → Type 0
+NoGroup rest = Unit {0} × (group rest ≡ nothing)
+
+pub format-groups : Format SmallGroups NoGroup groupsText groups
+unfolding groups
+format-groups = format-one-to format-group (λ g rest small follows. tt) 8
+
 -- nothing, or a pressure after a space
 format-inner : Format SmallInner (λ rest. Always rest × (pressure rest ≡ nothing)) innerText inner
 unfolding inner pressure
@@ -119,74 +129,106 @@ format-inner = format-optional Inner.Given Inner.Missing kinds tt refl (format-a
 
 -- ---- the line
 
-abbrev SmallLine : Shown × (Group × Inner) → Type 0
-SmallLine p = SmallShown (p .0) × (SmallGroup (p .1 .0) × SmallInner (p .1 .1))
+abbrev Line : Type 0
+Line = Shown × (List Group × Inner)
 
-abbrev lineText : Shown × (Group × Inner) → List ℕ
+abbrev SmallLine : Line → Type 0
+SmallLine p = SmallShown (p .0) × (SmallGroups (p .1 .0) × SmallInner (p .1 .1))
+
+abbrev lineText : Line → List ℕ
 lineText p = shellText (shownText (p .0)) (p .1 .0) (p .1 .1)
 
+-- what may stand after the pressure: no further one, and no group
+abbrev AfterInner : List ℕ → Type 0
+AfterInner rest = (Always rest × (pressure rest ≡ nothing)) × (group rest ≡ nothing)
+
+after-groups : (i : Inner) (rest : List ℕ) → AfterInner rest → NoGroup (innerText i ++ rest)
+unfolding group changed sequence fixed startsWith
+after-groups (Inner.Given p) rest follows = (tt, refl)
+after-groups Inner.Missing rest follows = (tt, follows .1)
+
+after-wall : (gs : List Group) (i : Inner) (rest : List ℕ) → 1 ≤ length gs → AfterWall ((groupsText gs ++ innerText i) ++ ascii ")" ++ rest)
+unfolding changed sequence fixed startsWith number upTo numberOf plainStart
+after-wall [] i rest some = absurd (omega arith)
+after-wall (g ∷ gs) i rest some = (refl, refl)
+
 format-line : Format SmallLine Always lineText line
-unfolding line pressure changed sequence fixed startsWith number upTo numberOf plainStart
+unfolding line group pressure changed sequence fixed startsWith
 format-line =
     format-as (λ p h. h) (λ p h. h) (λ rest follows. follows) (λ p. simp append-assoc)
     (format-sequence (format-before (ascii "(shell ") format-shown)
-    (format-closed (ascii ")") (λ rest. (tt, refl)) (format-sequence format-group format-inner (λ b rest small follows. tt)))
-    (λ b rest small follows. (refl, refl)))
+    (format-closed (ascii ")") (λ rest. ((tt, refl), refl))
+    (format-sequence format-groups (format-as (λ i h. h) (λ i h. h) (λ rest follows. follows .0) (λ i. refl) format-inner) (λ i rest small follows. after-groups i rest follows)))
+    (λ p rest small follows. after-wall (p .0) (p .1) rest (small .0 .0)))
 
--- the numbers of a record, with such a shortfall shown
-abbrev numbers : Record → Numeral → Shown
-numbers c d = (c .wall .radius, (c .wall .thickness, (c .wall .length, (c .wall .modulus, (c .wall .«yield_stress», (c .wall .edges, (c .wall .imperfection, d)))))))
+-- the numbers of a wall, with such a shortfall shown
+abbrev numbers : Wall → Numeral → Shown
+numbers w d = (w .radius, (w .thickness, (w .length, (w .modulus, (w .«yield_stress», (w .edges, (w .imperfection, d)))))))
+
+-- a wall with another shortfall
+abbrev lacking : ℕ → Wall → Wall
+lacking d w =
+    record {
+      radius = w .radius;
+      thickness = w .thickness;
+      length = w .length;
+      modulus = w .modulus;
+      «yield_stress» = w .«yield_stress»;
+      edges = w .edges;
+      imperfection = w .imperfection;
+      shortfall = d;
+    }
 
 module _ (l : List ℕ) where
-  abbrev Shows : Shown × (Group × Inner) → Type 0
+  abbrev Shows : Line → Type 0
   Shows p = SmallLine p × (l ≡ lineText p)
 
-  -- a line spells the record of what it shows
-  spells-shown : (p : Shown × (Group × Inner)) → Shows p → Spells l (recordIn p)
+  -- a line spells the load cases of what it shows
+  spells-shown : (p : Line) → Shows p → Spells l (casesIn p)
   unfolding Spells text textWithoutShortfall Small
-  spells-shown ((r, (t, (n, (E, (fy, (edges, (a, Value d))))))), (g, i)) ((s, (s′, s″)), is) =
-      (((s .0, s .1 .0, s .1 .1 .0, s .1 .1 .1 .0, s .1 .1 .1 .1 .0, s .1 .1 .1 .1 .1 .0, s .1 .1 .1 .1 .1 .1 .0, s .1 .1 .1 .1 .1 .1 .1), s′, s″), inl (is ∙ ap (λ (x : List ℕ). shellText x g i) (sym (append-assoc (sevenText (wallIn (r, (t, (n, (E, (fy, (edges, (a, Value d))))))))) (ascii " ") (decimal d)))))
-  spells-shown ((r, (t, (n, (E, (fy, (edges, (a, Missing))))))), (g, i)) ((s, (s′, s″)), is) =
-      (((s .0, s .1 .0, s .1 .1 .0, s .1 .1 .1 .0, s .1 .1 .1 .1 .0, s .1 .1 .1 .1 .1 .0, s .1 .1 .1 .1 .1 .1 .0, lit< tt), s′, s″), inr (refl, is ∙ ap (λ (x : List ℕ). shellText x g i) (append-nil (sevenText (wallIn (r, (t, (n, (E, (fy, (edges, (a, Missing))))))))))))
+  spells-shown ((r, (t, (n, (E, (fy, (edges, (a, Value d))))))), (gs, i)) ((s, (s′, s″)), is) =
+      (((s .0, s .1 .0, s .1 .1 .0, s .1 .1 .1 .0, s .1 .1 .1 .1 .0, s .1 .1 .1 .1 .1 .0, s .1 .1 .1 .1 .1 .1 .0, s .1 .1 .1 .1 .1 .1 .1), s′, s″), inl (is ∙ ap (λ (x : List ℕ). shellText x gs i) (sym (append-assoc (sevenText (wallIn (r, (t, (n, (E, (fy, (edges, (a, Value d))))))))) (ascii " ") (decimal d)))))
+  spells-shown ((r, (t, (n, (E, (fy, (edges, (a, Missing))))))), (gs, i)) ((s, (s′, s″)), is) =
+      (((s .0, s .1 .0, s .1 .1 .0, s .1 .1 .1 .0, s .1 .1 .1 .1 .0, s .1 .1 .1 .1 .1 .0, s .1 .1 .1 .1 .1 .1 .0, lit< tt), s′, s″), inr (refl, is ∙ ap (λ (x : List ℕ). shellText x gs i) (append-nil (sevenText (wallIn (r, (t, (n, (E, (fy, (edges, (a, Missing))))))))))))
 
-  -- and where it spells a record, it shows what means it
-  shows-spelt : (c : Record) → Spells l c → (p : Shown × (Group × Inner)) × (Shows p × (recordIn p ≡ c))
+  -- and where it spells load cases, it shows what means them
+  shows-spelt : (c : LoadCases) → Spells l c → (p : Line) × (Shows p × (casesIn p ≡ c))
   unfolding Spells text textWithoutShortfall Small
   shows-spelt c (((r, t, n, E, fy, edges, a, d), s′, s″), inl is) =
-      ((numbers c (Value (c .wall .shortfall)), (c .group, c .inner)), ((((r, (t, (n, (E, (fy, (edges, (a, d))))))), (s′, s″)), is ∙ ap (λ (x : List ℕ). shellText x (c .group) (c .inner)) (append-assoc (sevenText (c .wall)) (ascii " ") (decimal (c .wall .shortfall)))), refl))
+      ((numbers (c .wall) (Value (c .wall .shortfall)), (c .groups, c .inner)), ((((r, (t, (n, (E, (fy, (edges, (a, d))))))), (s′, s″)), is ∙ ap (λ (x : List ℕ). shellText x (c .groups) (c .inner)) (append-assoc (sevenText (c .wall)) (ascii " ") (decimal (c .wall .shortfall)))), refl))
   shows-spelt c (((r, t, n, E, fy, edges, a, d), s′, s″), inr (none, is)) = (
-    (numbers c Missing, (c .group, c .inner)),
-    ((((r, (t, (n, (E, (fy, (edges, (a, tt))))))), (s′, s″)), is ∙ ap (λ (x : List ℕ). shellText x (c .group) (c .inner)) (sym (append-nil (sevenText (c .wall))))), λ i. withShortfall (sym none i) c),
+    (numbers (c .wall) Missing, (c .groups, c .inner)),
+    ((((r, (t, (n, (E, (fy, (edges, (a, tt))))))), (s′, s″)), is ∙ ap (λ (x : List ℕ). shellText x (c .groups) (c .inner)) (sym (append-nil (sevenText (c .wall))))), λ i. record { wall = lacking (sym none i) (c .wall); groups = c .groups; inner = c .inner }),
   )
 
--- the form of a line: either it spells a record and is read as it, or it spells none and is refused by 5
+-- the form of a line: either it spells load cases and is read as they are, or it spells none and is refused by 5
 pub form-right : (l : List ℕ) → Whole (Spells l) Read (Refused 5) (formOf l)
 unfolding formOf
 form-right l =
-    whole-means recordIn Read (Refused 5) (λ p is. spells-shown l p is) (λ c is. let (p, (shows, means)) = shows-spelt l c is in (p, shows)) (formOf l)
-    (format-whole format-line tt (λ p. Read (recordIn p)) (Refused 5) l)
+    whole-means casesIn Read (Refused 5) (λ p is. spells-shown l p is) (λ c is. let (p, (shows, means)) = shows-spelt l c is in (p, shows)) (formOf l)
+    (format-whole format-line tt (λ p. Read (casesIn p)) (Refused 5) l)
 
 -- ---- what follows
 
-apart : (c : Record) → _≡_ {A = Form} (Read c) (Refused 5) → ⊥
+apart : (c : LoadCases) → _≡_ {A = Form} (Read c) (Refused 5) → ⊥
 apart c e = let z : _≡_ {A = ℕ} 0 1 = cc in omega arith
 
-same : (c d : Record) → Read c ≡ Read d → c ≡ d
+same : (c d : LoadCases) → Read c ≡ Read d → c ≡ d
 same c d e = cc
 
--- a line that spells a record is read as it
-pub read-text : (l : List ℕ) (c : Record) → Spells l c → formOf l ≡ Read c
+-- a line that spells load cases is read as they are
+pub read-text : (l : List ℕ) (c : LoadCases) → Spells l c → formOf l ≡ Read c
 unfolding formOf
 read-text l c is =
     let (p, ((small, same), means)) = shows-spelt l c is in
-    ap (whole (λ q. Read (recordIn q)) (Refused 5)) (read-whole format-line tt p l small same) ∙ ap Read means
+    ap (whole (λ q. Read (casesIn q)) (Refused 5)) (read-whole format-line tt p l small same) ∙ ap Read means
 
 -- and only such a line is
-pub text-read : (l : List ℕ) (c : Record) → formOf l ≡ Read c → Spells l c
+pub text-read : (l : List ℕ) (c : LoadCases) → formOf l ≡ Read c → Spells l c
 text-read l c e = whole-spells apart same (formOf l) (form-right l) c e
 
--- a line is refused exactly if it spells no record
-pub other-text : (l : List ℕ) → (formOf l ≡ Refused 5) ↔ ((c : Record) → Spells l c → ⊥)
+-- a line is refused exactly if it spells none
+pub other-text : (l : List ℕ) → (formOf l ≡ Refused 5) ↔ ((c : LoadCases) → Spells l c → ⊥)
 other-text l = (λ e. whole-none apart (formOf l) (form-right l) e, λ without. none-whole (formOf l) (form-right l) without)
 
 -- and by no other number
@@ -197,17 +239,26 @@ refused-five l n e = go (formOf l) (form-right l) e
     go _ (spelt c is) q = absurd (let z : _≡_ {A = ℕ} 0 1 = cc in omega arith)
     go _ (unspelt none) q = cc
 
--- a line spells at most one record
-pub spells-once : (l : List ℕ) (c d : Record) → Spells l c → Spells l d → c ≡ d
+-- a line spells no two
+pub spells-once : (l : List ℕ) (c d : LoadCases) → Spells l c → Spells l d → c ≡ d
 spells-once l c d is is′ = same c d (sym (read-text l c is) ∙ read-text l d is′)
 
--- no two records have the same text
-pub text-injective : (c d : Record) → Small c → Small d → text c ≡ text d → c ≡ d
+-- no two have the same text
+pub text-injective : (c d : LoadCases) → Small c → Small d → text c ≡ text d → c ≡ d
 unfolding Spells
 text-injective c d small small′ e = spells-once (text c) c d (small, inl refl) (small′, inl e)
 
--- a blank line spells no record
-pub blank-spells : (c : Record) → Spells [] c → ⊥
+-- a blank line spells none
+pub blank-spells : (c : LoadCases) → Spells [] c → ⊥
 unfolding Spells text textWithoutShortfall
 blank-spells c (small, inl e) = let z : _≡_ {A = ℕ} 0 1 = cc in omega arith
 blank-spells c (small, inr (zero, e)) = let z : _≡_ {A = ℕ} 0 1 = cc in omega arith
+
+-- a line has one to eight load cases
+pub spells-some : (l : List ℕ) (c : LoadCases) → Spells l c → 1 ≤ length (c .groups)
+unfolding Spells Small
+spells-some l c is = is .0 .1 .0
+
+pub spells-few : (l : List ℕ) (c : LoadCases) → Spells l c → length (c .groups) ≤ 8
+unfolding Spells Small
+spells-few l c is = is .0 .1 .1

@@ -2,3 +2,4 @@ pub mod Inverse
 pub mod Answers
 pub mod Unique
 pub mod Shortfall
+pub mod OwnLines

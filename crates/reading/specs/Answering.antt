@@ -6,15 +6,14 @@ use lib.Dec.{ltb}
 use Rattle.algebra.specs.Choice.{pick}
 use Rattle.answer.specs.declared.Answer.{Answer}
 use Rattle.answer.specs.declared.Answer.the-variants as Answer
-use Rattle.record.specs.Answering.{recordAnswer}
-use Rattle.reading.specs.declared.Form.{Form}
-use Rattle.reading.specs.declared.Form.the-variants as Form
+use Rattle.cases.specs.Answering.{casesAnswer}
 use Rattle.reading.specs.Answers.{lineMost}
-use Rattle.reading.specs.Reading.{formOf}
+use Rattle.reading.specs.Reading.{Form, Read, formOf}
+use Rattle.reading.specs.Reading as Form
 
 abbrev pub answerForm : Form → Answer
 answerForm (Form.Refused n) = Answer.Refused n
-answerForm (Form.Read c) = recordAnswer c
+answerForm (Form.Read c) = casesAnswer c
 
 unfoldable pub answerTo : List ℕ → Answer
 answerTo l = pick (ltb lineMost (length l)) (Answer.Refused 4) (answerForm (formOf l))

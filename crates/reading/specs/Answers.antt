@@ -1,24 +1,49 @@
--- SCOPE 9.5, 9.12, 9.13, 10.4, 10.5 and 25.6: what is laid down of the answer to a line.
-use Prim.Native.Nat.{ℕ, _≤_, _<_}
-use mathlib.Core.List.{List}
+-- SCOPE 9.5, 9.12, 9.13, 10.4, 10.5, 25.6 and 26.2 to 26.6: what is laid down of the answer to a line.
+use Prim.Native.Nat.{ℕ, suc, _≤_, _<_}
+use mathlib.Core.Path.{_≡_}
+use mathlib.Core.List.{List, [], _∷_}
 use lib.ListN.{length}
-use Rattle.answer.specs.declared.Verdict.{Verdict}
+use Rattle.answer.specs.declared.Judgement.{Judgement}
 use Rattle.answer.specs.declared.Answer.{Answer}
-use Rattle.answer.specs.declared.Answer.the-variants.{Refused}
-use Rattle.record.specs.declared.Record.{Record}
-use Rattle.record.specs.Right.{Right, MeansFor}
-use Rattle.reading.specs.Text.{Spells}
+use Rattle.answer.specs.declared.Answer.the-variants.{Refused, Judged}
+use Rattle.answer.specs.Governing.{governing}
+use Rattle.record.specs.declared.Group.{Group}
+use Rattle.cases.specs.Cases.{LoadCases, alone, oneCase, RightCases, MeansCases}
+use Rattle.reading.specs.Text.{text, Spells}
 
 -- a line has at most so many bytes
 abbrev pub lineMost : ℕ
-lineMost = 128
+lineMost = 512
 
--- the line l has the answer a: 4 where it is longer; else 5 where it spells no record; else an answer that is right for the record that it spells
+-- the line l has the answer a: 4 where it is longer; else 5 where it spells no load cases; else an answer that is right for those that it spells
 pub data RightLine (l : List ℕ) : Answer → Type 0 where
   too-long : lineMost < length l → RightLine l (Refused 4)
-  not-form : length l ≤ lineMost → ((c : Record) → Spells l c → ⊥) → RightLine l (Refused 5)
-  of-record : (c : Record) (a : Answer) → length l ≤ lineMost → Spells l c → Right c a → RightLine l a
+  not-form : length l ≤ lineMost → ((c : LoadCases) → Spells l c → ⊥) → RightLine l (Refused 5)
+  of-cases : (c : LoadCases) (a : Answer) → length l ≤ lineMost → Spells l c → RightCases c a → RightLine l a
 
--- what a verdict on the line l says of the record that it spells
-abbrev pub MeansLine : List ℕ → Verdict → Type 0
-MeansLine l v = (c : Record) × (Spells l c × MeansFor c v)
+-- ---- SCOPE 26.4 and 26.5: each load case is judged as it is on a line of its own
+
+-- the line of one of the load cases
+abbrev pub ownLine : LoadCases → Group → List ℕ
+ownLine c g = text (oneCase (alone c g))
+
+-- a judgement for each load case, numbered from n on: but for that number, the one that a rule gives the line of its own
+abbrev pub OwnJudged : (List ℕ → Answer) → LoadCases → ℕ → List Group → List Judgement → Type 0
+OwnJudged rule c n [] [] = Unit {0}
+OwnJudged rule c n [] (j ∷ js) = ⊥
+OwnJudged rule c n (g ∷ gs) [] = ⊥
+OwnJudged rule c n (g ∷ gs) (j ∷ js) =
+    (rule (ownLine c g) ≡ Judged (record { verdict = j .verdict; low = j .low; high = j .high; case = 1 })) × ((j .case ≡ n) × OwnJudged rule c (suc n) gs js)
+
+-- the judgement j of the line l is the one that governs these
+pub record ByOwnLines (rule : List ℕ → Answer) (l : List ℕ) (j : Judgement) : Type 0 where
+  pub cases : LoadCases
+  pub spelt : Spells l cases
+  pub head : Judgement
+  pub others : List Judgement
+  pub own : OwnJudged rule cases 1 (cases .groups) (head ∷ others)
+  pub is : j ≡ governing head others
+
+-- what a judgement of the line l says of the load cases that it spells
+abbrev pub MeansLine : List ℕ → Judgement → Type 0
+MeansLine l j = (c : LoadCases) × (Spells l c × MeansCases c j)

@@ -4,18 +4,21 @@ use mathlib.Core.List.{List}
 use Rattle.text.specs.Bytes.{ascii}
 use Rattle.word.specs.declared.Numeral.{Numeral}
 use Rattle.word.specs.declared.Numeral.the-variants.{Value, Missing}
-use Rattle.format.specs.Readers.{Reader, number, sequence, changed, oneOf, before, closed, optional, whole}
+use Rattle.format.specs.Readers.{Reader, number, sequence, changed, oneOf, oneTo, before, closed, optional, whole}
 use Rattle.record.specs.declared.Wall.{Wall}
 use Rattle.record.specs.declared.Ring.{Ring}
 use Rattle.record.specs.declared.Ring.the-variants.{Stress, Wind}
 use Rattle.record.specs.declared.Group.{Group}
 use Rattle.record.specs.declared.Inner.{Inner}
 use Rattle.record.specs.declared.Inner.the-variants as Inner
-use Rattle.record.specs.declared.Record.{Record}
-use Rattle.reading.specs.declared.Form.{Form}
-use Rattle.reading.specs.declared.Form.the-variants.{Read, Refused}
+use Rattle.cases.specs.Cases.{LoadCases}
 
--- ---- a record of its parts in the order of a line
+-- what a line is: one that spells load cases, or the line's refusal
+pub data Form : Type 0 where
+  Read : LoadCases → Form
+  Refused : ℕ → Form
+
+-- ---- load cases of their parts in the order of a line
 
 -- a number that may be missing, and then is 0
 abbrev pub orZero : Numeral → ℕ
@@ -45,8 +48,8 @@ windIn p = Wind (p .0) (p .1)
 abbrev pub groupIn : ℕ × (Ring × ℕ) → Group
 groupIn p = record { axial = p .0; ring = p .1 .0; shear = p .1 .1 }
 
-abbrev pub recordIn : Shown × (Group × Inner) → Record
-recordIn p = record { wall = wallIn (p .0); group = p .1 .0; inner = p .1 .1 }
+abbrev pub casesIn : Shown × (List Group × Inner) → LoadCases
+casesIn p = record { wall = wallIn (p .0); groups = p .1 .0; inner = p .1 .1 }
 
 -- ---- the readers
 
@@ -73,6 +76,10 @@ ring = oneOf Stress windIn spaced wind
 unfoldable pub group : Reader Group
 group = changed groupIn (sequence (before (ascii " (stress ") number) (sequence ring (closed spaced (ascii ")"))))
 
+-- one to eight groups
+unfoldable pub groups : Reader (List Group)
+groups = oneTo 8 group
+
 -- p of (inner p), after a space
 unfoldable pub pressure : Reader ℕ
 pressure = closed (before (ascii " (inner ") number) (ascii ")")
@@ -81,8 +88,8 @@ pressure = closed (before (ascii " (inner ") number) (ascii ")")
 unfoldable pub inner : Reader Inner
 inner = optional Inner.Given Inner.Missing pressure
 
-unfoldable pub line : Reader (Shown × (Group × Inner))
-line = sequence (before (ascii "(shell ") shown) (closed (sequence group inner) (ascii ")"))
+unfoldable pub line : Reader (Shown × (List Group × Inner))
+line = sequence (before (ascii "(shell ") shown) (closed (sequence groups inner) (ascii ")"))
 
 unfoldable pub formOf : List ℕ → Form
-formOf l = whole (λ p. Read (recordIn p)) (Refused 5) (line l)
+formOf l = whole (λ p. Read (casesIn p)) (Refused 5) (line l)

@@ -1,4 +1,5 @@
-// One line of a sheet: the record that it spells, composed of its parts.
+// One line of a sheet: the load cases that it spells, composed of its parts.
+use cases::Cases;
 use format::FixedAt;
 use format::NumberAt;
 use format::fixed_at;
@@ -6,19 +7,21 @@ use format::number_after;
 use format::number_at;
 use record::Group;
 use record::Inner;
-use record::Record;
 use record::Ring;
 use record::Wall;
 ghost use mathlib.Core.Path.{_≡_};
+ghost use Prim.Native.Nat.{_≤_};
+ghost use lib.ListN.{length};
 ghost use Rattle.format.specs.Readers.{changed};
 ghost use Rattle.format.specs.Places.{Answers, numberPart};
-ghost use Rattle.reading.specs.Reading.{orZero, wallIn, windIn, spaced, shortfall, shown, wind, ring, group, pressure, inner, formOf};
-ghost use Rattle.reading.specs.Parts.{wallPart, ringPart, groupPart, innerPart};
+ghost use Rattle.reading.specs.Reading.{orZero, wallIn, windIn, spaced, shortfall, shown, wind, ring, group, groups, pressure, inner, formOf};
+ghost use Rattle.cases.specs.Answering.{Counted};
+ghost use Rattle.reading.specs.Parts.{wallPart, ringPart, groupPart, groupsPart, innerPart, formIn};
 
-// What a line is: one that spells a record, or the line's refusal.
-pub enum Form {
-    Read(Record),
-    Refused(u64),
+// What a line is: one that spells load cases, where the refusal is 0, or the line's refusal. An enum holds no array.
+pub struct Reading {
+    pub refusal: u64,
+    pub cases: Cases,
 }
 
 // A part of a line and the place after it, or the line's refusal.
@@ -35,6 +38,13 @@ enum RingAt {
 enum GroupAt {
     Read(Group, usize),
     Refused(u64),
+}
+
+// The groups are the first `count`, and a count of 0 is the line's refusal.
+struct GroupsAt {
+    groups: [Group; 8],
+    count: usize,
+    next: usize,
 }
 
 enum InnerAt {
@@ -149,6 +159,39 @@ fn group_at(line: &[u8], at: usize) -> GroupAt
     GroupAt::Read(group, at)
 }
 
+// One to eight groups, each after a space.
+fn groups_at(line: &[u8], at: usize) -> GroupsAt
+    ensures { λ r. ⌜ Answers groups (now (line .entry)) at (groupsPart r) ⌝ }
+    ensures { λ r. ⌜ (r .count ≤ 8) × (length (r .groups) ≡ 8) ⌝ }
+{
+    let ring = Ring::Stress(0);
+    let none = Group {
+        axial: 0,
+        ring,
+        shear: 0,
+    };
+    let mut groups = [none; 8];
+    let mut count = 0;
+    let mut next = at;
+    while count < 8 {
+        let GroupAt::Read(group, after) = group_at(line, next) else {
+            return GroupsAt {
+                groups,
+                count,
+                next,
+            };
+        };
+        groups[count] = group;
+        count += 1;
+        next = after;
+    }
+    GroupsAt {
+        groups,
+        count,
+        next,
+    }
+}
+
 // p of (inner p), after a space
 fn pressure_at(line: &[u8], at: usize) -> NumberAt
     ensures { λ r. ⌜ Answers pressure (now (line .entry)) at (numberPart r) ⌝ }
@@ -175,27 +218,65 @@ fn inner_at(line: &[u8], at: usize) -> InnerAt
     InnerAt::Read(Inner::Given(p), next)
 }
 
-// The record that a line spells, or the line's refusal.
-pub fn read(line: &[u8]) -> Form
-    ensures { λ r. ⌜ r ≡ formOf (now (line .entry)) ⌝ }
+// No load cases, and refusal 5.
+fn refused() -> Reading
+    ensures { λ r. ⌜ (r .refusal ≡ 5) ⌝ }
+{
+    let wall = Wall {
+        radius: 0,
+        thickness: 0,
+        length: 0,
+        modulus: 0,
+        yield_stress: 0,
+        edges: 0,
+        imperfection: 0,
+        shortfall: 0,
+    };
+    let group = Group {
+        axial: 0,
+        ring: Ring::Stress(0),
+        shear: 0,
+    };
+    let cases = Cases {
+        wall,
+        groups: [group; 8],
+        count: 0,
+        inner: Inner::Missing,
+    };
+    Reading { refusal: 5, cases }
+}
+
+// The load cases that a line spells, or the line's refusal.
+pub fn read(line: &[u8]) -> Reading
+    ensures { λ r. ⌜ formIn (r .refusal) (r .cases) ≡ formOf (now (line .entry)) ⌝ }
+    ensures { λ r. ⌜ (r .refusal ≡ 0 → Counted (r .cases)) ⌝ }
 {
     let FixedAt::Read(at) = fixed_at(line, 0, b"(shell ") else {
-        return Form::Refused(5);
+        return refused();
     };
     let WallAt::Read(wall, at) = wall_at(line, at) else {
-        return Form::Refused(5);
+        return refused();
     };
-    let GroupAt::Read(group, at) = group_at(line, at) else {
-        return Form::Refused(5);
-    };
-    let InnerAt::Read(inner, at) = inner_at(line, at) else {
-        return Form::Refused(5);
+    let found = groups_at(line, at);
+    let groups = found.groups;
+    let count = found.count;
+    if count == 0 {
+        return refused();
+    }
+    let InnerAt::Read(inner, at) = inner_at(line, found.next) else {
+        return refused();
     };
     let FixedAt::Read(at) = fixed_at(line, at, b")") else {
-        return Form::Refused(5);
+        return refused();
     };
     if at != line.len() {
-        return Form::Refused(5);
+        return refused();
     }
-    Form::Read(Record { wall, group, inner })
+    let cases = Cases {
+        wall,
+        groups,
+        count,
+        inner,
+    };
+    Reading { refusal: 0, cases }
 }

@@ -18,7 +18,7 @@ use Rattle.answer.specs.declared.Answer.{Answer}
 use Rattle.answer.specs.declared.Answer.the-variants.{Refused, Judged}
 use Rattle.answer.specs.Checks.{Check, check, FirstBroken, AllPassed}
 use Rattle.answer.specs.Answering.{firstOr, judgementOf}
-use Rattle.answer.specs.Right.{refused, judged}
+use Rattle.answer.specs.Right.{AsCase, refused, judged}
 use Rattle.answer.proofs.Checks.{among-every, all-passed}
 use Rattle.answer.proofs.Right
 use Rattle.pressure.specs.WholeGain.{lineBounds}
@@ -115,16 +115,16 @@ module _ (c : Record) (none : pressureOf (c .inner) ≡ 0) where
     where
       to : (a : Answer) → Right c a → UnpressedRight c a
       to _ (refused n f) = refused n (broken-less last allowed (unpressedChecks c) n f)
-      to _ (judged j all b v) = judged j (passed-less last allowed (unpressedChecks c) all) (to-bounds j b) v
+      to _ (judged j all (b, k) v) = judged j (passed-less last allowed (unpressedChecks c) all) (to-bounds j b, k) v
 
       from : (a : Answer) → UnpressedRight c a → Right c a
       from _ (refused n f) = refused n (broken-more last allowed (unpressedChecks c) n f)
-      from _ (judged j all b v) = judged j (passed-more last allowed (unpressedChecks c) all) (from-bounds j b) v
+      from _ (judged j all (b, k) v) = judged j (passed-more last allowed (unpressedChecks c) all) (from-bounds j b, k) v
 
   -- so no refusal is over 13
   pub plain-range : (n : ℕ) → Right c (Refused n) → n ≤ 13
   plain-range n r =
-      among-every (λ m. m ≤ 13) (6 ∷ 7 ∷ 11 ∷ 8 ∷ 9 ∷ 10 ∷ 13 ∷ []) n (Right.refused-among (unpressedChecks c) (BoundsOf (UnpressedOver c)) n (plain-right (Refused n) .0 r))
+      among-every (λ m. m ≤ 13) (6 ∷ 7 ∷ 11 ∷ 8 ∷ 9 ∷ 10 ∷ 13 ∷ []) n (Right.refused-among (unpressedChecks c) (AsCase 1 (BoundsOf (UnpressedOver c))) n (plain-right (Refused n) .0 r))
       (lit≤ tt, (lit≤ tt, (lit≤ tt, (lit≤ tt, (lit≤ tt, (lit≤ tt, (lit≤ tt, tt)))))))
 
   -- L and U are the same

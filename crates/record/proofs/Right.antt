@@ -24,7 +24,7 @@ use Rattle.answer.specs.declared.Answer.the-variants.{Refused, Judged}
 use Rattle.answer.specs.Answers.{verdictOf}
 use Rattle.answer.specs.Answering.{Bounded}
 use Rattle.answer.specs.Checks.{Check, AllPassed}
-use Rattle.answer.specs.Right.{RightBy, refused, judged}
+use Rattle.answer.specs.Right.{RightBy, AsCase, refused, judged}
 use Rattle.answer.proofs.Checks.{Among, among-every, broken-passed}
 use Rattle.answer.proofs.Right
 use Rattle.answer.proofs.Verdicts.{verdict-holds, verdict-fails, verdict-open, holds-verdict, fails-verdict}
@@ -47,20 +47,20 @@ record-down c = line-down _ _ _ _ _ _
 
 pub record-right : (c : Record) → Right c (recordAnswer c)
 unfolding recordAnswer
-record-right c = Right.answer-by-right (checks c) (Bounds c) (judgementOfRecord c) refl (bounds-right c)
+record-right c = Right.answer-by-right (checks c) (AsCase 1 (Bounds c)) (judgementOfRecord c) refl (λ all. (bounds-right c all, refl))
 
 module _ (c : Record) where
   -- SCOPE 11.6, 20.7, 22.7 and 25.1: no other refusal than 6 to 11, 13 and 16
   pub meets : (n : ℕ) → Right c (Refused n) → Among n (6 ∷ 7 ∷ 11 ∷ 8 ∷ 9 ∷ 10 ∷ 13 ∷ 16 ∷ [])
-  meets n r = Right.refused-among (checks c) (Bounds c) n r
+  meets n r = Right.refused-among (checks c) (AsCase 1 (Bounds c)) n r
 
   pub refusal-range : (n : ℕ) → Right c (Refused n) → (6 ≤ n) × (n ≤ 16)
   refusal-range n r = among-every (λ m. (6 ≤ m) × (m ≤ 16)) (6 ∷ 7 ∷ 11 ∷ 8 ∷ 9 ∷ 10 ∷ 13 ∷ 16 ∷ []) n (meets n r)
       ((lit≤ tt, lit≤ tt), ((lit≤ tt, lit≤ tt), ((lit≤ tt, lit≤ tt), ((lit≤ tt, lit≤ tt), ((lit≤ tt, lit≤ tt), ((lit≤ tt, lit≤ tt), ((lit≤ tt, lit≤ tt), ((lit≤ tt, lit≤ tt), tt))))))))
 
-  -- L and U fit the number of an answer
+  -- L, U and the case fit the number of an answer
   pub right-bounded : (a : Answer) → Right c a → Bounded a
-  right-bounded a r = Right.right-bounded (checks c) (Bounds c) (λ j b. (b .encloses .L-most, b .encloses .U-most)) a r
+  right-bounded a r = Right.right-bounded (checks c) (AsCase 1 (Bounds c)) (λ j b. (b .0 .encloses .L-most, b .0 .encloses .U-most, omega (arith, b .1), omega (arith, b .1))) a r
 
 -- ---- what a verdict says of an exact sum, whatever the checks and the sum are, if L and U enclose it
 
@@ -91,15 +91,15 @@ module _ (ks : List Check) (Exceeds : ℕ → ℕ → Type 0) (down : Verdict.Do
 module _ (c : Record) (j : Judgement) where
   -- holds only if the exact sum is at most 1
   pub holds-at-most : Right c (Judged j) → j .verdict ≡ Holds → AtMost (RecordOver c) 1 1
-  holds-at-most = sum-holds (checks c) (RecordOver c) (record-down c) j (Bounds c) (λ b. b .encloses)
+  holds-at-most = sum-holds (checks c) (RecordOver c) (record-down c) j (AsCase 1 (Bounds c)) (λ b. b .0 .encloses)
 
   -- fails only if it is over 1
   pub fails-over : Right c (Judged j) → j .verdict ≡ Fails → RecordOver c 1 1
-  fails-over = sum-fails (checks c) (RecordOver c) (record-down c) j (Bounds c) (λ b. b .encloses)
+  fails-over = sum-fails (checks c) (RecordOver c) (record-down c) j (AsCase 1 (Bounds c)) (λ b. b .0 .encloses)
 
   -- open only if it lies from 0.9999 to 1.0002, or the test of the gain is in doubt
   pub open-near : Right c (Judged j) → j .verdict ≡ Open → (AtLeast (RecordOver c) 9999 10000 × AtMost (RecordOver c) 10002 10000) ⊎ InDoubt c
-  open-near (judged _ all b v) h =
+  open-near (judged _ all (b, _) v) h =
       let (over, under) = verdict-open (j .low) (j .high) (sym v ∙ h) in
       elim (decLe (j .high) (j .low + 2)) [
         | yes le ↦ inl (Verdict.open-only (b .encloses) (record-down c) le over under)
@@ -123,7 +123,7 @@ module _ (c : Record) (j : Judgement) where
 
 -- L and U of a right answer that are not close: the two sides of the test of the gain differ by less than 1/1000
 pub apart-doubt : (c : Record) (j : Judgement) → Right c (Judged j) → j .low + 2 < j .high → Doubt (cylinderOf (c .wall)) (pressureOf (c .inner)) (q (cylinderOf (c .wall)))
-apart-doubt c j (judged _ all b v) far = ⊎-elim (λ close. absurd (omega (arith, close, far))) (λ doubt. doubt) (b .close)
+apart-doubt c j (judged _ all (b, _) v) far = ⊎-elim (λ close. absurd (omega (arith, close, far))) (λ doubt. doubt) (b .close)
 
 -- without pressure there is no doubt, so L and U are close
 pub close-plain : (c : Record) (j : Judgement) → pressureOf (c .inner) ≡ 0 → Bounds c j → Close (j .low) (j .high)
@@ -148,7 +148,7 @@ module _ (c : Record) (none : pressureOf (c .inner) ≡ 0) (all : AllPassed (che
     where
       go : (x : Answer) → Right c x → (j : Judgement) × ((x ≡ Judged j) × (j .verdict ≡ Holds))
       go _ (refused n f) = absurd (broken-passed (checks c) n f all)
-      go _ (judged j p b v) =
+      go _ (judged j p (b, _) v) =
           let o = overlap c j (judgementOfRecord c) b (bounds-right c all) in
           (j, (refl, v ∙ holds-verdict (j .low) (j .high) (omega (arith, close-plain c j none b, o))))
 
@@ -157,6 +157,6 @@ module _ (c : Record) (none : pressureOf (c .inner) ≡ 0) (all : AllPassed (che
     where
       go : (x : Answer) → Right c x → (j : Judgement) × ((x ≡ Judged j) × (j .verdict ≡ Fails))
       go _ (refused n f) = absurd (broken-passed (checks c) n f all)
-      go _ (judged j p b v) =
+      go _ (judged j p (b, _) v) =
           let o = overlap c (judgementOfRecord c) j (bounds-right c all) b in
           (j, (refl, v ∙ fails-verdict (j .low) (j .high) (omega (arith, close-plain c j none b, o)) (omega (arith, o, h))))

@@ -16,7 +16,7 @@ use Rattle.answer.specs.declared.Judgement.{Judgement}
 use Rattle.answer.specs.declared.Answer.{Answer}
 use Rattle.answer.specs.declared.Answer.the-variants.{Refused, Judged}
 use Rattle.answer.specs.Checks.{Check, check, FirstBroken}
-use Rattle.answer.specs.Right.{refused, judged}
+use Rattle.answer.specs.Right.{AsCase, refused, judged}
 use Rattle.answer.specs.Answering.{firstOr, judgementOf}
 use Rattle.record.specs.declared.Wall.{Wall}
 use Rattle.record.specs.declared.Record.{Record}
@@ -56,7 +56,7 @@ module _ (c : Record) (small : c .wall .shortfall ≤ 50) (e : effectiveWall (c 
   From8 b n = FirstBroken (check 8 b ∷ behind) n
 
   abbrev Claim : Cylinder → Judgement → Type 0
-  Claim s = GroupBounds s (pressureOf (c .inner)) (c .group)
+  Claim s = AsCase 1 (GroupBounds s (pressureOf (c .inner)) (c .group))
 
   fewer : (n : ℕ) → FirstBroken (checks c) n → FirstBroken (nominalChecks c) n
   fewer n (inl x) = inl x

@@ -15,7 +15,7 @@ use Rattle.wind.proofs.Stress.{wind-most, wind-stress, wind-found}
 use Rattle.answer.specs.declared.Answer.{Answer}
 use Rattle.answer.specs.declared.Answer.the-variants.{Refused, Judged}
 use Rattle.answer.specs.Checks.{Check, check, FirstBroken, AllPassed}
-use Rattle.answer.specs.Right.{RightBy, refused, judged}
+use Rattle.answer.specs.Right.{AsCase, RightBy, refused, judged}
 use Rattle.answer.specs.Answering.{firstOr}
 use Rattle.answer.proofs.Checks.{all-passed}
 use Rattle.record.specs.declared.Ring.{Ring}
@@ -101,7 +101,7 @@ module _ (c : Record) (allowed : windAllowed (c .group .ring) ≡ true) where
           ∷ []
 
   pub wind-right : (a : Answer) → Right c a ↔ Right (asStress c) a
-  wind-right a = (λ r. subst (λ (l : List Check). RightBy l (Bounds c) a) same-checks r, λ r. subst (λ (l : List Check). RightBy l (Bounds c) a) (sym same-checks) r)
+  wind-right a = (λ r. subst (λ (l : List Check). RightBy l (AsCase 1 (Bounds c)) a) same-checks r, λ r. subst (λ (l : List Check). RightBy l (AsCase 1 (Bounds c)) a) (sym same-checks) r)
 
   pub wind-answer : recordAnswer c ≡ recordAnswer (asStress c)
   unfolding recordAnswer boundsOf

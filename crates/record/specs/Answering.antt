@@ -1,13 +1,14 @@
 -- How the program answers a record. Nobody has to believe this: `record-right` (proofs/Right.antt) says that the answer is Right, `judged-ring`
 -- (proofs/Wind.antt) what `ringStressOf` is, and `record-gain` (proofs/Pressure.antt) what `gainOfRecord` means.
-use Prim.Native.Nat.{ℕ}
+use Prim.Native.Nat.{ℕ, _<_}
 use Rattle.cylinder.specs.declared.Cylinder.{Cylinder}
 use Rattle.cylinder.specs.Fraction.{whole}
 use Rattle.cylinder.specs.Search.{Pair}
 use Rattle.pressure.specs.WholeGain.{lineBounds}
 use Rattle.line_bounds.specs.declared.Gain.{Gain}
 use Rattle.line_bounds.specs.declared.Gain.the-variants.{Idle}
-use Rattle.line_bounds.specs.Places.{gainOf}
+use Rattle.line_bounds.specs.declared.Worked.{Worked}
+use Rattle.line_bounds.specs.Places.{gainOf, WorkedFor}
 use Rattle.answer.specs.declared.Judgement.{Judgement}
 use Rattle.answer.specs.declared.Answer.{Answer}
 use Rattle.answer.specs.declared.Answer.the-variants.{Refused, Judged}
@@ -39,3 +40,9 @@ ringStressOf c = firstOr (λ n. 0) (ringStress (cylinderOf (c .wall)) (c .group 
 -- what the pressure does to a record, nothing where a check is broken
 unfoldable pub gainOfRecord : Record → Gain
 gainOfRecord c = firstOr (λ n. Idle) (gainOf (cylinderOf (c .wall)) (pressureOf (c .inner))) (checks c)
+
+-- what depends on a record's wall alone has been worked, as far as its stresses need it
+abbrev pub WorkedOn : Record → Worked → Type 0
+WorkedOn c =
+    let s = cylinderOf (c .wall) in
+    WorkedFor s (pressureOf (c .inner)) (0 < c .group .axial) (0 < ringStress s (c .group .ring)) (0 < c .group .shear)

@@ -8,7 +8,7 @@ use Rattle.cylinder.specs.Search.{Pair}
 use Rattle.answer.specs.declared.Answer.{Answer}
 use Rattle.answer.specs.declared.Answer.the-variants.{Refused, Judged}
 use Rattle.answer.specs.Checks.{Check, check}
-use Rattle.answer.specs.Right.{RightBy}
+use Rattle.answer.specs.Right.{RightBy, AsCase}
 use Rattle.answer.specs.Answering.{firstOr, judgementOf}
 use Rattle.record.specs.declared.Wall.{Wall}
 use Rattle.record.specs.declared.Record.{Record}
@@ -36,7 +36,7 @@ abbrev pub nominalCylinder : Wall → Cylinder
 nominalCylinder w = cylinderBy (2 * w .thickness) w
 
 abbrev pub NominalRight : Record → Answer → Type 0
-NominalRight c = RightBy (nominalChecks c) (GroupBounds (nominalCylinder (c .wall)) (pressureOf (c .inner)) (c .group))
+NominalRight c = RightBy (nominalChecks c) (AsCase 1 (GroupBounds (nominalCylinder (c .wall)) (pressureOf (c .inner)) (c .group)))
 
 -- how the program would answer then, to be compared with `recordAnswer`; what is right does not need it
 unfoldable pub nominalBounds : Record → Pair

@@ -13,7 +13,7 @@ use Rattle.answer.specs.declared.Verdict.{Verdict}
 use Rattle.answer.specs.declared.Verdict.the-variants.{Holds, Fails, Open}
 use Rattle.answer.specs.declared.Judgement.{Judgement}
 use Rattle.answer.specs.declared.Answer.{Answer}
-use Rattle.answer.specs.Right.{RightBy}
+use Rattle.answer.specs.Right.{RightBy, AsCase}
 use Rattle.record.specs.declared.Ring.{Ring}
 use Rattle.record.specs.declared.Ring.the-variants.{Stress, Wind}
 use Rattle.record.specs.declared.Group.{Group}
@@ -48,9 +48,9 @@ GroupBounds s p g j = BoundsUnder s p (q s) (whole (g .axial)) (whole (ringStres
 abbrev pub Bounds : Record → Judgement → Type 0
 Bounds c = GroupBounds (cylinderOf (c .wall)) (pressureOf (c .inner)) (c .group)
 
--- refused by the first check broken, or judged, with L and U that are right and the verdict of L and U
+-- refused by the first check broken, or judged, with L and U that are right, the verdict of L and U, and load case 1
 abbrev pub Right : Record → Answer → Type 0
-Right c = RightBy (checks c) (Bounds c)
+Right c = RightBy (checks c) (AsCase 1 (Bounds c))
 
 -- what a verdict says of an exact sum: holds, that it is at most 1; fails, that it is over 1; open, that it lies from 0.99 to 1.01
 abbrev pub Means : (ℕ → ℕ → Type 0) → Verdict → Type 0

@@ -8,7 +8,7 @@ use Rattle.cylinder.specs.Search.{Pair, sumBounds}
 use Rattle.answer.specs.declared.Answer.{Answer}
 use Rattle.answer.specs.declared.Answer.the-variants.{Refused, Judged}
 use Rattle.answer.specs.Checks.{Check, check}
-use Rattle.answer.specs.Right.{RightBy}
+use Rattle.answer.specs.Right.{RightBy, AsCase}
 use Rattle.answer.specs.Answering.{firstOr, judgementOf}
 use Rattle.record.specs.declared.Record.{Record}
 use Rattle.record.specs.Limits.{inRange, edgesKnown, shortfallAllowed, wallRatio, lengthRatio, tolerated, windAllowed, cylinderOf}
@@ -32,7 +32,7 @@ UnpressedOver c =
     Over s (whole (c .group .axial)) (whole (ringStress s (c .group .ring))) (whole (c .group .shear))
 
 abbrev pub UnpressedRight : Record → Answer → Type 0
-UnpressedRight c = RightBy (unpressedChecks c) (BoundsOf (UnpressedOver c))
+UnpressedRight c = RightBy (unpressedChecks c) (AsCase 1 (BoundsOf (UnpressedOver c)))
 
 -- how the program would answer then, to be compared with `recordAnswer`; what is right does not need it
 unfoldable pub unpressedBounds : Record → Pair

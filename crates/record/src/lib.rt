@@ -8,12 +8,14 @@ ghost use Rattle.cylinder.specs.InLimits.{InLimits};
 ghost use Rattle.line_bounds.specs.Means.{GainMeans};
 ghost use Rattle.record.specs.Limits.{fromTo, inRange, dimensions, material, ringInRange, stresses, edgesKnown, effectiveWall, wallRatio, lengthRatio, tolerated, windAllowed, pressureOf, checks, cylinderOf, recordOf, withInner};
 ghost use Rattle.record.specs.Right.{ringStress, Right};
-ghost use Rattle.record.specs.Answering.{judgementOfRecord, recordAnswer, ringStressOf, gainOfRecord};
+ghost use Rattle.guess.specs.Roots.{RootTable};
+ghost use Rattle.record.specs.Answering.{WorkedOn, judgementOfRecord, recordAnswer, ringStressOf, gainOfRecord};
 use answer::Answer;
 use answer::Judgement;
 use bounds::Load;
 use cylinder::Cylinder;
 use line_bounds::Gain;
+use line_bounds::Worked;
 
 // A shell without its load: its wall, material and edges. Each field is any u64.
 pub struct Wall {
@@ -169,7 +171,7 @@ impl Wall {
     }
 
     // The cylinder of a wall.
-    fn cylinder(self) -> Cylinder
+    pub fn cylinder(self) -> Cylinder
         requires { ⌜ (self .thickness ≤ 10000) × (self .shortfall ≤ 2 * self .thickness) ⌝ }
         ensures { λ r. ⌜ r ≡ cylinderOf self ⌝ }
     {
@@ -198,7 +200,7 @@ impl Ring {
     }
 
     // Whether the load passes check 13.
-    fn has_allowed_wind(self) -> bool
+    pub fn has_allowed_wind(self) -> bool
         ensures { λ r. ⌜ r ≡ windAllowed self ⌝ }
     {
         match self {
@@ -228,7 +230,7 @@ impl Ring {
 
 impl Inner {
     // p, 0 where the group is missing.
-    fn pressure(self) -> u64
+    pub fn pressure(self) -> u64
         ensures { λ r. ⌜ r ≡ pressureOf self ⌝ }
     {
         match self {
@@ -240,7 +242,7 @@ impl Inner {
 
 impl Group {
     // Whether each stress lies in its range.
-    fn has_stresses(self) -> bool
+    pub fn has_stresses(self) -> bool
         ensures { λ r. ⌜ r ≡ stresses self ⌝ }
     {
         let ring = self.ring;
@@ -342,6 +344,23 @@ impl Record {
         let inner = self.inner;
         let b = line_bounds::of_line(s, inner.pressure(), x, y, z);
         Judgement::by_bounds(b.low, b.high)
+    }
+
+    // The same, where what depends on the wall alone has been worked before.
+    pub fn judgement_by(self, roots: &[u8; 1024], w: Worked) -> Judgement
+        requires { ⌜ AllPassed (checks self) × WorkedOn self w × RootTable (now roots) ⌝ }
+        ensures { λ r. ⌜ r ≡ judgementOfRecord self ⌝ }
+    {
+        let wall = self.wall;
+        let group = self.group;
+        let s = wall.cylinder();
+        let ring = group.ring;
+        let x = load(group.axial);
+        let y = load(ring.stress_on(s));
+        let z = load(group.shear);
+        let inner = self.inner;
+        let l = line_bounds::of_group(roots, s, inner.pressure(), w, x, y, z);
+        Judgement::by_bounds(l.low, l.high)
     }
 
     // The number of the first check that the record breaks, 0 where it breaks none.

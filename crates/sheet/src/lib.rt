@@ -6,7 +6,6 @@ use lines::first_line;
 use listing::Counts;
 use outcome::Outcome;
 use outcome::refusal;
-use reading::Form;
 use reading::read;
 use total::put_total;
 ghost use mathlib.Core.Path.{_≡_};
@@ -22,7 +21,7 @@ ghost use Rattle.outcome.specs.Running.{listing, outcome};
 ghost use Rattle.outcome.specs.declared.Outcome.{Outcome};
 
 // A line of more bytes is refused by 4.
-const LINE_MOST: usize = 128;
+const LINE_MOST: usize = 512;
 
 // The answer to a line: refused by 4 if it is too long, by 5 if it is not the form, else the answer to its record.
 pub fn answer(line: &[u8]) -> Answer
@@ -32,9 +31,11 @@ pub fn answer(line: &[u8]) -> Answer
     if LINE_MOST < line.len() {
         return Answer::Refused(4);
     }
-    let Form::Read(c) = read(line) else {
-        return Answer::Refused(5);
-    };
+    let found = read(line);
+    if 0 < found.refusal {
+        return Answer::Refused(found.refusal);
+    }
+    let c = found.cases;
     c.answer()
 }
 

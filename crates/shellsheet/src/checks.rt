@@ -219,6 +219,16 @@ fn say_pressure(ok: bool, inner: Inner) -> bool {
     }
 }
 
+// 6 and 13 of a load case: each of its own fields that is outside its range.
+pub(crate) fn say_own(ok: bool, n: u64, g: Group) -> bool {
+    let ring = g.ring;
+    if n == 13 {
+        return say_wind(ok, ring);
+    }
+    let ok = say(ok, b"out of range");
+    say_stresses(ok, g)
+}
+
 // Why a record is refused by n.
 pub(crate) fn say_check(ok: bool, n: u64, c: Record) -> bool {
     let w = c.wall;

@@ -1,5 +1,6 @@
 // --explain: the answers to a sheet in words. Each answer is that of `sheet::answer`, which the listing has too; the words decide nothing.
 use crate::checks::say_check;
+use crate::checks::say_own;
 use crate::form::say_form;
 use crate::say::say;
 use crate::say::say_decimal;
@@ -10,11 +11,11 @@ use crate::say::say_two;
 use answer::Answer;
 use answer::Judgement;
 use answer::Verdict;
+use cases::Cases;
 use line_bounds::Gain;
 use lines::after_line;
 use lines::first_line;
 use listing::Counts;
-use reading::Form;
 use reading::read;
 use record::Group;
 use record::Inner;
@@ -156,10 +157,7 @@ fn say_inner(ok: bool, c: Record, inner: Inner) -> bool {
 }
 
 // The remarks on a record that has a verdict.
-fn say_remarks(ok: bool, line: &[u8]) -> bool {
-    let Form::Read(c) = read(line) else {
-        return ok;
-    };
+fn say_remarks(ok: bool, c: Record) -> bool {
     let g = c.group;
     let ring = g.ring;
     let inner = c.inner;
@@ -178,22 +176,125 @@ fn verdict_word(v: Verdict) -> u64 {
 }
 
 // A verdict, with the sum.
-fn say_judged(ok: bool, j: Judgement, line: &[u8]) -> bool {
+fn say_verdict(ok: bool, j: Judgement) -> bool {
     let verdict = j.verdict;
-    let ok = say_piece(ok, b" holds% fails% is open", verdict_word(verdict));
+    say_piece(ok, b" holds% fails% is open", verdict_word(verdict))
+}
+
+// A load case of several, with its own verdict.
+fn say_case(ok: bool, k: u64, c: Record) -> bool {
+    let Answer::Judged(j) = c.answer() else {
+        return ok;
+    };
+    let ok = say_one(ok, b"\n  case %", k);
+    let ok = say_verdict(ok, j);
     let ok = say_sum(ok, j.low, j.high);
-    say_remarks(ok, line)
+    say_remarks(ok, c)
+}
+
+// Each of several load cases.
+fn say_cases(ok: bool, c: Cases) -> bool {
+    let mut all = ok;
+    let mut i: usize = 0;
+    while i < 8 {
+        if i < c.count {
+            all = say_case(all, i as u64 + 1, c.case_at(i));
+        }
+        i += 1;
+    }
+    all
+}
+
+// A verdict on a line, with the sum; of several load cases the one that governs, and then each.
+fn say_judged(ok: bool, j: Judgement, line: &[u8]) -> bool {
+    let found = read(line);
+    let c = found.cases;
+    let ok = say_verdict(ok, j);
+    if c.count == 1 {
+        let ok = say_sum(ok, j.low, j.high);
+        return say_remarks(ok, c.case_at(0));
+    }
+    let ok = say_two(ok, b", case % of % governs", j.case, c.count as u64);
+    let ok = say_sum(ok, j.low, j.high);
+    say_cases(ok, c)
+}
+
+// Whether it is the load case that breaks a check, and not the wall or the pressure.
+fn is_own(n: u64, g: Group) -> bool {
+    let ring = g.ring;
+    match n {
+        6 => !g.has_stresses(),
+        13 => !ring.has_allowed_wind(),
+        _ => false,
+    }
+}
+
+// The wall and the pressure, without stresses.
+fn unloaded(c: Cases) -> Record {
+    let wall = c.wall;
+    let inner = c.inner;
+    let group = Group {
+        axial: 0,
+        ring: Ring::Stress(0),
+        shear: 0,
+    };
+    Record { wall, group, inner }
+}
+
+// What stands before a load case, if anything does.
+fn say_between(ok: bool, behind: bool) -> bool {
+    if behind {
+        return say(ok, b"; ");
+    }
+    ok
+}
+
+// Load case k, behind others or not, and how it breaks check n by itself.
+fn say_breaking(ok: bool, n: u64, k: u64, behind: bool, g: Group) -> bool {
+    let ok = say_between(ok, behind);
+    let ok = say_one(ok, b"case %: ", k);
+    say_own(ok, n, g)
+}
+
+// Each load case that breaks check n by itself; behind something or not.
+fn say_each(ok: bool, n: u64, behind: bool, c: Cases) -> bool {
+    let mut all = ok;
+    let mut next = behind;
+    let mut i: usize = 0;
+    while i < 8 {
+        let one = c.case_at(i);
+        if i < c.count && is_own(n, one.group) {
+            all = say_breaking(all, n, i as u64 + 1, next, one.group);
+            next = true;
+        }
+        i += 1;
+    }
+    all
+}
+
+// Why load cases are refused by n: what of the wall or the pressure breaks the check, and then each load case that does.
+fn say_broken(ok: bool, n: u64, c: Cases) -> bool {
+    if c.count == 1 {
+        return say_check(ok, n, c.case_at(0));
+    }
+    let shell = unloaded(c);
+    if shell.refusal() == n {
+        let ok = say_check(ok, n, shell);
+        return say_each(ok, n, true, c);
+    }
+    say_each(ok, n, false, c)
 }
 
 // Why a line is refused by n.
 fn say_why(ok: bool, n: u64, line: &[u8]) -> bool {
     if n == 4 {
-        return say_one(ok, b"it has % bytes, over 128", line.len() as u64);
+        return say_one(ok, b"it has % bytes, over 512", line.len() as u64);
     }
-    let Form::Read(c) = read(line) else {
+    let found = read(line);
+    if 0 < found.refusal {
         return say_form(ok, line);
-    };
-    say_check(ok, n, c)
+    }
+    say_broken(ok, n, found.cases)
 }
 
 // A refusal, with what broke the check.

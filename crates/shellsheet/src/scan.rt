@@ -134,6 +134,52 @@ fn then_ring(line: &[u8], before: Stop) -> Stop {
     scan(line, at, b"(wind L M)")
 }
 
+// A group, from its space on.
+fn scan_group(line: &[u8], at: usize) -> Stop {
+    let stop = scan(line, at, b" (stress I ");
+    let stop = then_ring(line, stop);
+    then(line, stop, b" K)")
+}
+
+// Whether a further group begins at `at`.
+fn group_behind(line: &[u8], at: usize) -> bool {
+    if line.len() <= at {
+        return false;
+    }
+    if line.len() - at < 3 {
+        return false;
+    }
+    if line[at] != 32 {
+        return false;
+    }
+    if line[at + 1] != 40 {
+        return false;
+    }
+    line[at + 2] == 115
+}
+
+// A further group, where one begins.
+fn then_group(line: &[u8], before: Stop) -> Stop {
+    let Stop::Behind(at) = before else {
+        return before;
+    };
+    if group_behind(line, at) {
+        return scan_group(line, at);
+    }
+    before
+}
+
+// Up to seven further groups.
+fn then_groups(line: &[u8], before: Stop) -> Stop {
+    let mut stop = before;
+    let mut i: usize = 1;
+    while i < 8 {
+        stop = then_group(line, stop);
+        i += 1;
+    }
+    stop
+}
+
 // (inner p), which may be left out.
 fn then_inner(line: &[u8], before: Stop) -> Stop {
     let Stop::Behind(at) = before else {
@@ -145,13 +191,15 @@ fn then_inner(line: &[u8], before: Stop) -> Stop {
     scan(line, at, b" (inner N)")
 }
 
-// Where `line` stops being of the form: with the three parts above this is the whole grammar, and `say_name` in form.rt has the names of A, B and so on.
+// Where `line` stops being of the form: with the parts above this is the whole grammar, and `say_name` in form.rt has the names of A, B and so on.
 pub(crate) fn scan_line(line: &[u8]) -> Stop {
     let stop = scan(line, 0, b"(shell A B C D E F G");
     let stop = then_shortfall(line, stop);
-    let stop = then(line, stop, b" (stress I ");
-    let stop = then_ring(line, stop);
-    let stop = then(line, stop, b" K)");
+    let Stop::Behind(at) = stop else {
+        return stop;
+    };
+    let stop = scan_group(line, at);
+    let stop = then_groups(line, stop);
     let stop = then_inner(line, stop);
     then(line, stop, b")")
 }

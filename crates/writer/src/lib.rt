@@ -1,7 +1,7 @@
-// Writes the line of a record (SCOPE 21).
+// Writes the line of load cases (SCOPE 21 and 26.8).
+use cases::Cases;
 use record::Group;
 use record::Inner;
-use record::Record;
 use record::Ring;
 use record::Wall;
 use text::put_bytes;
@@ -10,11 +10,12 @@ use text::put_spaced;
 ghost use mathlib.Core.Path.{_≡_};
 ghost use mathlib.Core.List.{List};
 ghost use Prim.Native.Nat.{ℕ, _+_, _≤_};
-ghost use lib.ListN.{length};
+ghost use lib.ListN.{length, take};
 ghost use Rattle.text.specs.Slices.{put};
-ghost use Rattle.reading.specs.Text.{wallText, ringText, groupText, innerText};
+ghost use Rattle.cases.specs.Answering.{loadCases};
+ghost use Rattle.reading.specs.Text.{wallText, ringText, groupsText, innerText};
 ghost use Rattle.writer.specs.Writing.{lineOf, Writes, writtenNumber};
-ghost use Rattle.writer.specs.Writer.{sizeText, windText, pressureText, writing};
+ghost use Rattle.writer.specs.Writer.{sizeText, windText, spacedGroup, pressureText, writing};
 ghost use Rattle.writer.specs.declared.Written.{Written};
 
 // What a writer answers: so many bytes put, or the number of the check that refused.
@@ -24,7 +25,7 @@ pub enum Written {
 }
 
 // A buffer of fewer bytes is refused by 12.
-const ROOM_LEAST: usize = 128;
+const ROOM_LEAST: usize = 512;
 
 // r t l
 fn put_size(out: &mut [u8], at: usize, w: Wall) -> usize
@@ -75,19 +76,37 @@ fn put_ring(out: &mut [u8], at: usize, ring: Ring) -> usize
     }
 }
 
-// (stress σx σφ τ), or wind in the place of σφ
+// (stress σx σφ τ), or wind in the place of σφ, after a space
 fn put_group(out: &mut [u8], at: usize, g: Group) -> usize
-    requires { ⌜ at + length (groupText g) ≤ length (now out) ⌝ }
-    ensures { λ r. ⌜ r ≡ at + length (groupText g) ⌝ }
-    ensures { λ _. ⌜ now (out .exit) ≡ put (now (out .entry)) at (groupText g) ⌝ }
+    requires { ⌜ at + length (spacedGroup g) ≤ length (now out) ⌝ }
+    ensures { λ r. ⌜ r ≡ at + length (spacedGroup g) ⌝ }
+    ensures { λ _. ⌜ now (out .exit) ≡ put (now (out .entry)) at (spacedGroup g) ⌝ }
 {
     let ring = g.ring;
-    let at = put_bytes(out, at, b"(stress ");
+    let at = put_bytes(out, at, b" (stress ");
     let at = put_number(out, at, g.axial);
     let at = put_bytes(out, at, b" ");
     let at = put_ring(out, at, ring);
     let at = put_spaced(out, at, g.shear);
     put_bytes(out, at, b")")
+}
+
+// The groups of the load cases.
+fn put_groups(out: &mut [u8], at: usize, c: Cases) -> usize
+    requires { ⌜ (c .count ≤ 8) × (length (c .groups) ≡ 8) ⌝ }
+    requires { ⌜ at + length (groupsText (take (c .count) (c .groups))) ≤ length (now out) ⌝ }
+    ensures { λ r. ⌜ r ≡ at + length (groupsText (take (c .count) (c .groups))) ⌝ }
+    ensures { λ _. ⌜ now (out .exit) ≡ put (now (out .entry)) at (groupsText (take (c .count) (c .groups))) ⌝ }
+{
+    let groups = c.groups;
+    let mut next = at;
+    let mut i = 0;
+    while i < c.count {
+        let after = put_group(out, next, groups[i]);
+        next = after;
+        i += 1;
+    }
+    next
 }
 
 // (inner p), after a space
@@ -113,30 +132,33 @@ fn put_inner(out: &mut [u8], at: usize, inner: Inner) -> usize
     }
 }
 
-// The line of a record, with its newline.
-fn put_line(out: &mut [u8], c: Record) -> usize
-    requires { ⌜ length (lineOf c) ≤ length (now out) ⌝ }
-    ensures { λ r. ⌜ r ≡ length (lineOf c) ⌝ }
-    ensures { λ _. ⌜ now (out .exit) ≡ put (now (out .entry)) 0 (lineOf c) ⌝ }
+// The line of load cases, with its newline.
+fn put_line(out: &mut [u8], c: Cases) -> usize
+    requires { ⌜ (c .count ≤ 8) × (length (c .groups) ≡ 8) ⌝ }
+    requires { ⌜ length (lineOf (loadCases c)) ≤ length (now out) ⌝ }
+    ensures { λ r. ⌜ r ≡ length (lineOf (loadCases c)) ⌝ }
+    ensures { λ _. ⌜ now (out .exit) ≡ put (now (out .entry)) 0 (lineOf (loadCases c)) ⌝ }
 {
     let wall = c.wall;
-    let group = c.group;
     let inner = c.inner;
     let at = put_bytes(out, 0, b"(shell ");
     let at = put_wall(out, at, wall);
-    let at = put_bytes(out, at, b" ");
-    let at = put_group(out, at, group);
+    let at = put_groups(out, at, c);
     let at = put_inner(out, at, inner);
     put_bytes(out, at, b")\n")
 }
 
-// Puts the line of a record at the start of `out`.
-pub fn write(out: &mut [u8], c: Record) -> Written
-    ensures { λ r. ⌜ Writes c (now (out .entry)) (now (out .exit)) r ⌝ }
-    ensures { λ r. ⌜ _≡_ {A = Written × List ℕ} (r, now (out .exit)) (writing c (now (out .entry))) ⌝ }
+// Puts the line of load cases at the start of `out`. A count of 0 is refused here; one above 8 does not fit `Cases`, so that the caller has to refuse it.
+pub fn write(out: &mut [u8], c: Cases) -> Written
+    requires { ⌜ (c .count ≤ 8) × (length (c .groups) ≡ 8) ⌝ }
+    ensures { λ r. ⌜ Writes (loadCases c) (now (out .entry)) (now (out .exit)) r ⌝ }
+    ensures { λ r. ⌜ _≡_ {A = Written × List ℕ} (r, now (out .exit)) (writing (loadCases c) (now (out .entry))) ⌝ }
 {
     if out.len() < ROOM_LEAST {
         return Written::Refused(12);
+    }
+    if c.count == 0 {
+        return Written::Refused(5);
     }
     let n = c.refusal();
     if 0 < n {

@@ -8,8 +8,8 @@ use Rattle.answer.proofs.Tests.{pick-on, pick-off}
 use Rattle.answer.proofs.Judgement.by_bounds.Statement.{statement}
 use Rattle.answer.proofs.Judgement.by_bounds.Tie as tie
 
-with-verdict : {v w : Verdict} (L U : ℕ) → v ≡ w → _≡_ {A = Judgement} (record { verdict = v; low = L; high = U }) (record { verdict = w; low = L; high = U })
-with-verdict L U e = λ i. record { verdict = e i; low = L; high = U }
+with-verdict : {v w : Verdict} (L U : ℕ) → v ≡ w → _≡_ {A = Judgement} (record { verdict = v; low = L; high = U; case = 1 }) (record { verdict = w; low = L; high = U; case = 1 })
+with-verdict L U e = λ i. record { verdict = e i; low = L; high = U; case = 1 }
 
 returns : tie.Need-returns
 returns c = with-verdict _ _ (pick-on _ (le-leb _ _ (c .if1 .taken)) refl)
