@@ -13,7 +13,7 @@ static inline double double_wind(const uint64_t *v, uint64_t w, uint64_t vented)
     return ceil(((delta < 1 ? delta : 1) + (vented ? 0.6 : 0)) * w * (r / t) / 1000);
 }
 
-/* What internal pressure multiplies kappa2 by, element 429, on a shell that is short by (27); n is r/t, k is kappa2 with the tolerance. */
+/* What internal pressure multiplies kappa2 by, element 429, on a shell that is short by (27); n is r/t, k is kappa2 without the tolerance, as the test reads it. */
 static inline double double_gain(double p, double E, double fy, double n, double S, double k) {
     if (p <= 0 || S <= 0.7) return 1;
     double gain = 1 + 1.2 * S * pow(p / E * n * n, 0.38) * (S < 1 ? (S - 0.7) / 0.3 : 1), K = k * gain, inside = 1 - 0.75 * K * K;
@@ -30,8 +30,8 @@ static double double_sum(const uint64_t *v, uint64_t p) {
         double S = sqrt(fy / (0.605 * Cx * E * tr));
         double k = S <= 0.25 ? 1 : S <= 1 ? 1.233 - 0.933 * S : S <= 1.5 ? 0.3 / (S * S * S) : 0.2 / (S * S);
         double g = S <= 0.25 ? 1.1 : S < 2 ? 1.1 * (1 + 0.318 * (S - 0.25) / 1.75) : 1.45;
-        k *= tolerance(S, q);
         if (lr <= 0.5 * rt) k *= double_gain(p / 1e6, E, fy, r / t, S, k);
+        k *= tolerance(S, q);
         double u = v[7] / 1000.0 / (k * fy / g);
         sum += u * sqrt(sqrt(u));
     }

@@ -20,7 +20,10 @@
    it, and too thin a plate is chosen. Round forces up, and plates down.
 
    BEFORE VERSION 0.2 shell_judge had ten numbers, and no shortfall. A client that was compiled for it has to be changed and compiled
-   again: it passes no d, and what stands in that place would be read as one. With 0 for d its answers are those that it had. */
+   again: it passes no d, and what stands in that place would be read as one. With 0 for d its answers are those that it had.
+
+   BEFORE VERSION 0.8 shell_judge_line granted the gain by internal pressure to some shells with an a above 1,000 that do not get it now; no shell gets one that it had not. Nothing has to be
+   compiled in another way: link again, and run old sheets through shellsheet --readings. */
 #ifndef SHELLSHEET_H
 #define SHELLSHEET_H
 
@@ -29,7 +32,7 @@
 
 /* The version, as two numbers and as text: "MAJOR.MINOR". It stands here alone: make reads it from these two lines. */
 #define SHELLSHEET_VERSION_MAJOR 0
-#define SHELLSHEET_VERSION_MINOR 7
+#define SHELLSHEET_VERSION_MINOR 8
 #define SHELLSHEET_VERSION SHELLSHEET_TEXT(SHELLSHEET_VERSION_MAJOR, SHELLSHEET_VERSION_MINOR)
 #define SHELLSHEET_TEXT(major, minor) SHELLSHEET_QUOTE(major) "." SHELLSHEET_QUOTE(minor)
 #define SHELLSHEET_QUOTE(number) #number
@@ -122,7 +125,7 @@ uint64_t shell_write_wind(uint8_t *out, size_t room, uint64_t r, uint64_t t, uin
 
    By element 429 of the standard the pressure raises the axial resistance of a shell with l/r up to 0.5 sqrt(r/t) and an axial slenderness S above 0.7, where
    (p/fy) (r/t) is at most 0.5 sqrt(1 - 0.75 k^2) - 0.25 k: kappa2 rises by a factor 1 + 1.2 S P^0.38 with P = (p/e) (r/t)^2, in which 1.2 S P^0.38 is scaled by
-   (S - 0.7)/0.3 below S = 1, and k is kappa2 so raised and with the tolerance. On other shells it has no effect.
+   (S - 0.7)/0.3 below S = 1, and k is kappa2 so raised, without the tolerance (before version 0.8: with it). The tolerance is in the resistance as ever. On other shells it has no effect.
 
    The answer is the number of bytes put, 61 to 95, or a refusal, 6 to 12 or 16; room, the bytes that keep their values, memory and threads are as with
    shell_write. It takes less than 16 KB of the calling thread's stack. */

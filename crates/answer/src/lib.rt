@@ -29,7 +29,7 @@ pub enum Answer {
 
 impl Verdict {
     // The digit of a verdict in the number of an answer.
-    fn number(self) -> u64
+    pub fn number(self) -> u64
         ensures { λ r. ⌜ (r ≡ verdictNumber self) × (r ≤ 3) ⌝ }
     {
         match self {

@@ -1,9 +1,10 @@
-// The calls from C (SCOPE 13, 20.7, 21.5, 22.9, 22.10, 24.9, 25.8 and 25.9).
+// The calls from C (SCOPE 13, 20.7, 21.5, 22.9, 22.10, 24.9, 25.8, 25.9, 26.8 and 26.9).
 ghost use mathlib.Core.Path.{_≡_};
 ghost use mathlib.Core.List.{List};
 ghost use Prim.Native.Nat.{ℕ};
 ghost use Rattle.answer.specs.Answers.{answerNumber};
 ghost use Rattle.answer.specs.Right.{NumberOfRight};
+ghost use Rattle.pressure.specs.declared.Order.the-variants.{PressureFirst};
 ghost use Rattle.record.specs.declared.Ring.the-variants.{Stress, Wind};
 ghost use Rattle.record.specs.declared.Inner.the-variants.{Given};
 ghost use Rattle.cases.specs.Cases.{oneCase};
@@ -22,6 +23,7 @@ use cases::list_of;
 use plates::Forces;
 use plates::Shell;
 use plates::choose;
+use pressure::Order;
 use record::Inner;
 use record::Record;
 use record::Ring;
@@ -43,8 +45,8 @@ pub extern "C" fn shell_judge(
     tau: u64,
     d: u64,
 ) -> u64
-    ensures { λ n. ⌜ n ≡ answerNumber (recordAnswer (recordOf r t l e fy edges a sx (Stress sphi) tau d)) ⌝ }
-    ensures { λ n. ⌜ NumberOfRight (Right (recordOf r t l e fy edges a sx (Stress sphi) tau d)) n ⌝ }
+    ensures { λ n. ⌜ n ≡ answerNumber (recordAnswer PressureFirst (recordOf r t l e fy edges a sx (Stress sphi) tau d)) ⌝ }
+    ensures { λ n. ⌜ NumberOfRight (Right PressureFirst (recordOf r t l e fy edges a sx (Stress sphi) tau d)) n ⌝ }
 {
     let given = Record::judge(r, t, l, e, fy, edges, a, sx, Ring::Stress(sphi), tau, d);
     given.number()
@@ -136,10 +138,10 @@ pub extern "C" fn shell_choose_plate(
 // The bytes of one line, and the number of the answer to it. Nothing is changed.
 #[no_mangle]
 pub extern "C" fn shell_judge_line(line: &[u8]) -> u64
-    ensures { λ n. ⌜ n ≡ answerNumber (answerTo (now (line .entry))) ⌝ }
-    ensures { λ n. ⌜ NumberOfRight (RightLine (now (line .entry))) n ⌝ }
+    ensures { λ n. ⌜ n ≡ answerNumber (answerTo PressureFirst (now (line .entry))) ⌝ }
+    ensures { λ n. ⌜ NumberOfRight (RightLine PressureFirst (now (line .entry))) n ⌝ }
 {
-    let given = sheet::answer(line);
+    let given = sheet::answer(line, Order::PressureFirst);
     given.number()
 }
 

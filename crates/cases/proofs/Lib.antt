@@ -4,3 +4,4 @@ pub mod Right
 pub mod Wanting
 pub mod Worst
 pub mod Fives
+pub mod Orders

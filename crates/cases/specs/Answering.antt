@@ -5,6 +5,7 @@ use mathlib.Core.Bool.{Bool, true, _||_}
 use mathlib.Core.List.{List, [], _∷_}
 use lib.ListN.{length, take}
 use lib.Dec.{ltb, eqb}
+use Rattle.pressure.specs.declared.Order.{Order}
 use Rattle.algebra.specs.Choice.{pick}
 use Rattle.answer.specs.declared.Judgement.{Judgement}
 use Rattle.answer.specs.declared.Answer.{Answer}
@@ -63,18 +64,18 @@ abbrev pub WantedBy : List Group → Wanted → Type 0
 WantedBy gs w = (m : ℕ) (g : Group) → At gs m g → WantedFor g w
 
 -- the judgements of the load cases, numbered from n on
-unfoldable pub judgements : LoadCases → ℕ → List Group → List Judgement
-judgements c n [] = []
-judgements c n (g ∷ gs) = ofCase n (judgementOfRecord (alone c g)) ∷ judgements c (suc n) gs
+unfoldable pub judgements : Order → LoadCases → ℕ → List Group → List Judgement
+judgements o c n [] = []
+judgements o c n (g ∷ gs) = ofCase n (judgementOfRecord o (alone c g)) ∷ judgements o c (suc n) gs
 
 -- the one that governs; a line has at least one, so what is said of none does not matter
 abbrev pub governs : List Judgement → Judgement
 governs [] = judgementOf 0 0
 governs (j ∷ js) = governing j js
 
-unfoldable pub casesAnswer : LoadCases → Answer
+unfoldable pub casesAnswer : Order → LoadCases → Answer
 unfolding judgements
-casesAnswer c = firstOr Refused (Judged (governs (judgements c 1 (c .groups)))) (caseChecks c)
+casesAnswer o c = firstOr Refused (Judged (governs (judgements o c 1 (c .groups)))) (caseChecks c)
 
 -- how many load cases a list of so many numbers has; 0 where they are not 1 to 8, or not in fives
 abbrev pub countOf : ℕ → ℕ

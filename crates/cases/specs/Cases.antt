@@ -1,8 +1,9 @@
--- SCOPE 26.1 to 26.6: many load cases on one shell, their checks, and what is laid down of the answer.
+-- SCOPE 26.1 to 26.6 and 27.1: many load cases on one shell, their checks, and what is laid down of the answer.
 use Prim.Native.Nat.{ℕ, zero, suc, _-_}
 use mathlib.Core.Path.{_≡_}
 use mathlib.Core.Bool.{Bool, true, _&&_}
 use mathlib.Core.List.{List, [], _∷_}
+use Rattle.pressure.specs.declared.Order.{Order}
 use Rattle.cylinder.specs.Exact.{AtMost}
 use Rattle.answer.specs.declared.Verdict.the-variants.{Holds}
 use Rattle.answer.specs.declared.Judgement.{Judgement}
@@ -50,22 +51,22 @@ caseChecks c =
     ∷ []
 
 -- a judgement for each load case, numbered from n on: L and U are right for it on a line of its own, and the verdict is that of L and U
-abbrev pub EachJudged : LoadCases → ℕ → List Group → List Judgement → Type 0
-EachJudged c n [] [] = Unit {0}
-EachJudged c n [] (j ∷ js) = ⊥
-EachJudged c n (g ∷ gs) [] = ⊥
-EachJudged c n (g ∷ gs) (j ∷ js) = (AsCase n (Bounds (alone c g)) j × (j .verdict ≡ verdictOf (j .low) (j .high))) × EachJudged c (suc n) gs js
+abbrev pub EachJudged : Order → LoadCases → ℕ → List Group → List Judgement → Type 0
+EachJudged o c n [] [] = Unit {0}
+EachJudged o c n [] (j ∷ js) = ⊥
+EachJudged o c n (g ∷ gs) [] = ⊥
+EachJudged o c n (g ∷ gs) (j ∷ js) = (AsCase n (Bounds o (alone c g)) j × (j .verdict ≡ verdictOf (j .low) (j .high))) × EachJudged o c (suc n) gs js
 
 -- the judgement of a line: the one that governs those of its load cases
-pub record Governs (c : LoadCases) (j : Judgement) : Type 0 where
+pub record Governs (o : Order) (c : LoadCases) (j : Judgement) : Type 0 where
   pub first : Judgement
   pub others : List Judgement
-  pub each : EachJudged c 1 (c .groups) (first ∷ others)
+  pub each : EachJudged o c 1 (c .groups) (first ∷ others)
   pub is : j ≡ governing first others
 
 -- refused by the first check broken, or judged by the load case that governs
-abbrev pub RightCases : LoadCases → Answer → Type 0
-RightCases c = RightBy (caseChecks c) (Governs c)
+abbrev pub RightCases : Order → LoadCases → Answer → Type 0
+RightCases o c = RightBy (caseChecks c) (Governs o c)
 
 -- g stands at place n of a list, counted from 0
 abbrev pub At : List Group → ℕ → Group → Type 0
@@ -74,8 +75,8 @@ At (h ∷ hs) zero g = g ≡ h
 At (h ∷ hs) (suc n) g = At hs n g
 
 -- what the judgement of a line says: its verdict, of the exact sum of the case that governs; and holds, that the sum of every case is at most 1
-pub record MeansCases (c : LoadCases) (j : Judgement) : Type 0 where
+pub record MeansCases (o : Order) (c : LoadCases) (j : Judgement) : Type 0 where
   pub governs : Group
   pub is-case : At (c .groups) (j .case - 1) governs
-  pub means : MeansFor (alone c governs) (j .verdict)
-  pub all-hold : j .verdict ≡ Holds → (n : ℕ) (g : Group) → At (c .groups) n g → AtMost (RecordOver (alone c g)) 1 1
+  pub means : MeansFor o (alone c governs) (j .verdict)
+  pub all-hold : j .verdict ≡ Holds → (n : ℕ) (g : Group) → At (c .groups) n g → AtMost (RecordOver o (alone c g)) 1 1

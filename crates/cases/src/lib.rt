@@ -15,6 +15,7 @@ ghost use Rattle.cases.specs.Answering.{countOf, ListedOf, loadCases, no
 use answer::Answer;
 use answer::Judgement;
 use line_bounds::Worked;
+use pressure::Order;
 use record::Group;
 use record::Inner;
 use record::Record;
@@ -144,15 +145,16 @@ impl Cases {
     }
 
     // What depends on the wall alone, worked once for all load cases.
-    fn worked(self, roots: &[u8; 1024]) -> Worked
+    fn worked(self, o: Order, roots: &[u8; 1024]) -> Worked
         requires { ⌜ Counted self × AllPassed (caseChecks (loadCases self)) × RootTable (now roots) ⌝ }
-        ensures { λ r. ⌜ ((m : ℕ) (g : Group) → At (take (self .count) (self .groups)) m g → WorkedOn (alone (loadCases self) g) r) ⌝ }
+        ensures { λ r. ⌜ ((m : ℕ) (g : Group) → At (take (self .count) (self .groups)) m g → WorkedOn o (alone (loadCases self) g) r) ⌝ }
     {
         let wall = self.wall;
         let inner = self.inner;
         let w = self.wanted();
         line_bounds::work(
             roots,
+            o,
             wall.cylinder(),
             inner.pressure(),
             w.axial,
@@ -162,40 +164,40 @@ impl Cases {
     }
 
     // The judgement that governs load cases that break no check.
-    fn judgement(self) -> Judgement
+    fn judgement(self, o: Order) -> Judgement
         requires { ⌜ Counted self × AllPassed (caseChecks (loadCases self)) ⌝ }
-        ensures { λ r. ⌜ r ≡ governs (judgements (loadCases self) 1 (loadCases self .groups)) ⌝ }
+        ensures { λ r. ⌜ r ≡ governs (judgements o (loadCases self) 1 (loadCases self .groups)) ⌝ }
     {
         let roots = guess::root_table();
-        let w = self.worked(&roots);
+        let w = self.worked(o, &roots);
         let first = self.case_at(0);
-        let mut worst = first.judgement_by(&roots, w);
+        let mut worst = first.judgement_by(o, &roots, w);
         let mut i = 1;
         while i < self.count {
             let next = self.case_at(i);
-            let judged = next.judgement_by(&roots, w);
+            let judged = next.judgement_by(o, &roots, w);
             i += 1;
             worst = worst.or_worse(judged.of_case(i as u64));
         }
         worst
     }
 
-    // The answer to the load cases: the number of the first check that they break, or the judgement that governs.
-    pub fn answer(self) -> Answer
+    // The answer to the load cases, by a reading of the pressure's test: the number of the first check that they break, or the judgement that governs.
+    pub fn answer(self, o: Order) -> Answer
         requires { ⌜ Counted self ⌝ }
-        ensures { λ r. ⌜ r ≡ casesAnswer (loadCases self) ⌝ }
-        ensures { λ r. ⌜ RightCases (loadCases self) r ⌝ }
+        ensures { λ r. ⌜ r ≡ casesAnswer o (loadCases self) ⌝ }
+        ensures { λ r. ⌜ RightCases o (loadCases self) r ⌝ }
     {
         // one load case is a record
         if self.count == 1 {
             let c = self.case_at(0);
-            return c.answer();
+            return c.answer(o);
         }
         let n = self.refusal();
         if 0 < n {
             return Answer::Refused(n);
         }
-        Answer::Judged(self.judgement())
+        Answer::Judged(self.judgement(o))
     }
 
     // The number of the first check that the load cases break, 0 where they break none.

@@ -10,7 +10,7 @@ ghost use Rattle.text.specs.Slices.{put};
 ghost use Rattle.listing.specs.Listing.{verdictWord, said, entry, ended};
 
 // Writes the word of a verdict.
-fn put_word(out: &mut [u8], at: usize, v: Verdict) -> usize
+pub fn put_word(out: &mut [u8], at: usize, v: Verdict) -> usize
     requires { ⌜ at + length (verdictWord v) ≤ length (now out) ⌝ }
     ensures { λ r. ⌜ r ≡ at + length (verdictWord v) ⌝ }
     ensures { λ _. ⌜ now (out .exit) ≡ put (now (out .entry)) at (verdictWord v) ⌝ }

@@ -10,12 +10,12 @@ use lib.ListN.{length, getD, take, drop, length-append, length-map, length-drop,
 use lib.Seq.{getD-at, take-at}
 use lib.Dec.{lit<}
 use borrow.Author.Tests.{leb-true, leb-false}
+use Rattle.pressure.specs.declared.Order.the-variants.{PressureFirst}
 use Rattle.text.specs.Bytes.{ascii, digits, decimal, lines, lacksNewline}
 use Rattle.text.proofs.Laws.{lines-final}
 use Rattle.answer.specs.declared.Answer.{Answer}
 use Rattle.answer.specs.Checks.{FirstBroken, AllPassed}
 use Rattle.answer.proofs.Checks.{first-or, first-broken, all-passed, first-among, among-every}
-use Rattle.reading.specs.Answering.{answerTo}
 use Rattle.reading.proofs.Answers.{answer-right, line-means}
 use Rattle.reading.proofs.OwnLines.{by-own-lines}
 use Rattle.listing.specs.declared.Counts.{Counts}
@@ -24,7 +24,7 @@ use Rattle.listing.proofs.Totals.{count-sum}
 use Rattle.listing.proofs.Lines.{listing-lines, entries-length, entries-at}
 use Rattle.outcome.specs.declared.Outcome.{Outcome}
 use Rattle.outcome.specs.Sheet.{lineAt, answersBy, listingBy, sheetChecks, turnedBack, listedBy}
-use Rattle.outcome.specs.Running.{listing, outcome}
+use Rattle.outcome.specs.Running.{ruled, listing, outcome}
 use Rattle.outcome.specs.Demand3.{Run, turned, listed, written, ReadBack, Demand3}
 use Rattle.outcome.proofs.Laws.{sheet-room, accepted}
 
@@ -120,57 +120,57 @@ module _ (sheet out : List ℕ) where
   broken-outcome : (n : ℕ) → FirstBroken (sheetChecks sheet (length out)) n → outcome sheet out ≡ (turnedBack n, out)
   unfolding outcome
   broken-outcome n f =
-      first-broken (λ m. (turnedBack m, out)) (listedBy answerTo sheet, listing sheet ++ drop (length (listing sheet)) out) (sheetChecks sheet (length out)) n f
+      first-broken (λ m. (turnedBack m, out)) (listedBy ruled sheet, listing sheet ++ drop (length (listing sheet)) out) (sheetChecks sheet (length out)) n f
 
-  passed-outcome : AllPassed (sheetChecks sheet (length out)) → outcome sheet out ≡ (listedBy answerTo sheet, listing sheet ++ drop (length (listing sheet)) out)
+  passed-outcome : AllPassed (sheetChecks sheet (length out)) → outcome sheet out ≡ (listedBy ruled sheet, listing sheet ++ drop (length (listing sheet)) out)
   unfolding outcome
   passed-outcome all =
-      all-passed (λ m. (turnedBack m, out)) (listedBy answerTo sheet, listing sheet ++ drop (length (listing sheet)) out) (sheetChecks sheet (length out)) all
+      all-passed (λ m. (turnedBack m, out)) (listedBy ruled sheet, listing sheet ++ drop (length (listing sheet)) out) (sheetChecks sheet (length out)) all
 
-run-right : (sheet out : List ℕ) → Run answerTo sheet out (outcome sheet out .0) (outcome sheet out .1)
+run-right : (sheet out : List ℕ) → Run ruled sheet out (outcome sheet out .0) (outcome sheet out .1)
 unfolding outcome
-run-right sheet out = go (first-or (λ n. (turnedBack n, out)) (listedBy answerTo sheet, listing sheet ++ drop (length (listing sheet)) out) (sheetChecks sheet (length out)))
+run-right sheet out = go (first-or (λ n. (turnedBack n, out)) (listedBy ruled sheet, listing sheet ++ drop (length (listing sheet)) out) (sheetChecks sheet (length out)))
   where
-    by : (r : Outcome × List ℕ) → outcome sheet out ≡ r → Run answerTo sheet out (r .0) (r .1) → Run answerTo sheet out (outcome sheet out .0) (outcome sheet out .1)
-    by r e d = subst (λ (q : Outcome × List ℕ). Run answerTo sheet out (q .0) (q .1)) (sym e) d
+    by : (r : Outcome × List ℕ) → outcome sheet out ≡ r → Run ruled sheet out (r .0) (r .1) → Run ruled sheet out (outcome sheet out .0) (outcome sheet out .1)
+    by r e d = subst (λ (q : Outcome × List ℕ). Run ruled sheet out (q .0) (q .1)) (sym e) d
 
     go : ((n : ℕ) × (FirstBroken (sheetChecks sheet (length out)) n × (outcome sheet out ≡ (turnedBack n, out))))
-        ⊎ (AllPassed (sheetChecks sheet (length out)) × (outcome sheet out ≡ (listedBy answerTo sheet, listing sheet ++ drop (length (listing sheet)) out)))
-        → Run answerTo sheet out (outcome sheet out .0) (outcome sheet out .1)
+        ⊎ (AllPassed (sheetChecks sheet (length out)) × (outcome sheet out ≡ (listedBy ruled sheet, listing sheet ++ drop (length (listing sheet)) out)))
+        → Run ruled sheet out (outcome sheet out .0) (outcome sheet out .1)
     go (inl (n, (f, e))) = by (turnedBack n, out) e (turned n f refl refl)
-    go (inr (all, e)) = by (listedBy answerTo sheet, listing sheet ++ drop (length (listing sheet)) out) e (listed all refl refl)
+    go (inr (all, e)) = by (listedBy ruled sheet, listing sheet ++ drop (length (listing sheet)) out) e (listed all refl refl)
 
 -- whatever run meets `Run` by the program's rule meets the demand
-pub demand-by : (sheet out out′ : List ℕ) (r : Outcome) → Run answerTo sheet out r out′ → Demand3 answerTo sheet out r out′
+pub demand-by : (sheet out out′ : List ℕ) (r : Outcome) → Run ruled sheet out r out′ → Demand3 ruled sheet out r out′
 demand-by sheet out out′ r run =
     record {
       run = run;
-      right = answer-right;
-      verdict-means = λ l j e. line-means l (answerTo l) (answer-right l) j e;
-      own-lines = by-own-lines;
+      right = answer-right PressureFirst;
+      verdict-means = λ l j e. line-means PressureFirst l (ruled l) (answer-right PressureFirst l) j e;
+      own-lines = by-own-lines PressureFirst;
       read-back = λ z.
-          let a = accepted sheet (length out) (run-listed answerTo sheet out r out′ run z .0) in
-          run-read-back answerTo sheet out r out′ run z (omega (arith, sheet-room sheet (a .few), a .enough));
+          let a = accepted sheet (length out) (run-listed ruled sheet out r out′ run z .0) in
+          run-read-back ruled sheet out r out′ run z (omega (arith, sheet-room sheet (a .few), a .enough));
       same-answer = λ sheet₂ out₂ out₂′ r₂ run₂ z z₂ k m h h₂ e. (
-        answerTo (lineAt sheet k),
+        ruled (lineAt sheet k),
         (
-          run-lines answerTo sheet out r out′ run z .1 .0 k h,
-          run-lines answerTo sheet₂ out₂ r₂ out₂′ run₂ z₂ .1 .0 m h₂ ∙ ap (λ (l : List ℕ). entry (m + 1) (answerTo l)) (sym e),
+          run-lines ruled sheet out r out′ run z .1 .0 k h,
+          run-lines ruled sheet₂ out₂ r₂ out₂′ run₂ z₂ .1 .0 m h₂ ∙ ap (λ (l : List ℕ). entry (m + 1) (ruled l)) (sym e),
         ),
       );
       final-newline = λ lacks out₂ out₂′ r₂ run₂ z z₂. (
-        run-listed answerTo (sheet ++ (10 ∷ [])) out₂ r₂ out₂′ run₂ z₂ .1 .0 ∙ final-listed answerTo sheet lacks ∙ sym (run-listed answerTo sheet out r out′ run z .1 .0),
-        run-written answerTo (sheet ++ (10 ∷ [])) out₂ r₂ out₂′ run₂ z₂ ∙ final-listing answerTo sheet lacks ∙ sym (run-written answerTo sheet out r out′ run z),
+        run-listed ruled (sheet ++ (10 ∷ [])) out₂ r₂ out₂′ run₂ z₂ .1 .0 ∙ final-listed ruled sheet lacks ∙ sym (run-listed ruled sheet out r out′ run z .1 .0),
+        run-written ruled (sheet ++ (10 ∷ [])) out₂ r₂ out₂′ run₂ z₂ ∙ final-listing ruled sheet lacks ∙ sym (run-written ruled sheet out r out′ run z),
       );
-      empty-sheet = λ e z. run-written answerTo sheet out r out′ run z ∙ empty-listing answerTo sheet e;
+      empty-sheet = λ e z. run-written ruled sheet out r out′ run z ∙ empty-listing ruled sheet e;
     }
 
-pub demand-3 : (sheet out : List ℕ) → Demand3 answerTo sheet out (outcome sheet out .0) (outcome sheet out .1)
+pub demand-3 : (sheet out : List ℕ) → Demand3 ruled sheet out (outcome sheet out .0) (outcome sheet out .1)
 demand-3 sheet out = demand-by sheet out _ _ (run-right sheet out)
 
 -- for the code
-pub demand-of : (sheet out out′ : List ℕ) (r : Outcome) → _≡_ {A = Outcome × List ℕ} (r, out′) (outcome sheet out) → Demand3 answerTo sheet out r out′
-demand-of sheet out out′ r e = subst (λ (q : Outcome × List ℕ). Demand3 answerTo sheet out (q .0) (q .1)) (sym e) (demand-3 sheet out)
+pub demand-of : (sheet out out′ : List ℕ) (r : Outcome) → _≡_ {A = Outcome × List ℕ} (r, out′) (outcome sheet out) → Demand3 ruled sheet out r out′
+demand-of sheet out out′ r e = subst (λ (q : Outcome × List ℕ). Demand3 ruled sheet out (q .0) (q .1)) (sym e) (demand-3 sheet out)
 
 -- ---- SCOPE 9.1: a refusal where its condition is met, and only there
 
@@ -179,7 +179,7 @@ module _ (sheet out : List ℕ) where
   pub returned-broken : (n : ℕ) → 0 < n → (outcome sheet out .0 .refusal ≡ n) ↔ FirstBroken (sheetChecks sheet (length out)) n
   returned-broken n pos = (λ e. by (run-right sheet out) e, λ f. ap (λ (q : Outcome × List ℕ). q .0 .refusal) (broken-outcome sheet out n f))
     where
-      by : Run answerTo sheet out (outcome sheet out .0) (outcome sheet out .1) → outcome sheet out .0 .refusal ≡ n → FirstBroken (sheetChecks sheet (length out)) n
+      by : Run ruled sheet out (outcome sheet out .0) (outcome sheet out .1) → outcome sheet out .0 .refusal ≡ n → FirstBroken (sheetChecks sheet (length out)) n
       by (turned m f r o) e = rw (sym e ∙ ap (λ (q : Outcome). q .refusal) r) f
       by (listed all l o) e = absurd (omega (arith, ap (λ (q : Outcome). q .refusal) l))
 
@@ -187,7 +187,7 @@ module _ (sheet out : List ℕ) where
   pub returned-passed : (outcome sheet out .0 .refusal ≡ 0) ↔ AllPassed (sheetChecks sheet (length out))
   returned-passed = (λ e. by (run-right sheet out) e, λ all. ap (λ (q : Outcome × List ℕ). q .0 .refusal) (passed-outcome sheet out all))
     where
-      by : Run answerTo sheet out (outcome sheet out .0) (outcome sheet out .1) → outcome sheet out .0 .refusal ≡ 0 → AllPassed (sheetChecks sheet (length out))
+      by : Run ruled sheet out (outcome sheet out .0) (outcome sheet out .1) → outcome sheet out .0 .refusal ≡ 0 → AllPassed (sheetChecks sheet (length out))
       by (turned m f r o) e =
           absurd (omega (arith, ap (λ (q : Outcome). q .refusal) r, turned-positive sheet (length out) m f))
       by (listed all l o) e = all
@@ -196,7 +196,7 @@ module _ (sheet out : List ℕ) where
   pub untouched : (outcome sheet out .0 .refusal ≡ 0 → ⊥) → outcome sheet out .1 ≡ out
   untouched e = by (run-right sheet out)
     where
-      by : Run answerTo sheet out (outcome sheet out .0) (outcome sheet out .1) → outcome sheet out .1 ≡ out
+      by : Run ruled sheet out (outcome sheet out .0) (outcome sheet out .1) → outcome sheet out .1 ≡ out
       by (turned m f r o) = o
       by (listed all l o) = absurd (e (ap (λ (q : Outcome). q .refusal) l))
 

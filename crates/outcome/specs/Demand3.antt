@@ -5,6 +5,7 @@ use mathlib.Core.Path.{_≡_}
 use mathlib.Core.Bool.{true}
 use mathlib.Core.List.{List, [], _∷_, _++_}
 use lib.ListN.{length, take, drop}
+use Rattle.pressure.specs.declared.Order.the-variants.{PressureFirst}
 use Rattle.text.specs.Bytes.{ascii, lines, lacksNewline}
 use Rattle.answer.specs.Checks.{FirstBroken, AllPassed}
 use Rattle.answer.specs.declared.Judgement.{Judgement}
@@ -38,8 +39,8 @@ pub record ReadBack (rule : List ℕ → Answer) (sheet out : List ℕ) (r : Out
 pub record Demand3 (rule : List ℕ → Answer) (sheet out : List ℕ) (r : Outcome) (out′ : List ℕ) : Type 0 where
   pub run : Run rule sheet out r out′
   -- the answer to a line is right, and its verdict means what is laid down of the line
-  pub right : (l : List ℕ) → RightLine l (rule l)
-  pub verdict-means : (l : List ℕ) (j : Judgement) → rule l ≡ Judged j → MeansLine l j
+  pub right : (l : List ℕ) → RightLine PressureFirst l (rule l)
+  pub verdict-means : (l : List ℕ) (j : Judgement) → rule l ≡ Judged j → MeansLine PressureFirst l j
   -- each load case of a line has the verdict, L and U that the rule gives it on a line of its own, and the line those of the one that governs
   pub own-lines : (l : List ℕ) (j : Judgement) → rule l ≡ Judged j → ByOwnLines rule l j
   pub read-back : r .refusal ≡ 0 → ReadBack rule sheet out r out′

@@ -5,6 +5,7 @@ use mathlib.Core.List.{[], _∷_}
 use Prim.Native.Nat.{ℕ, zero, suc, _+_, _*_, _/_, _^_, _<_, min}
 use native.Mathlib.Nat.{not-suc-le-zero, one-mul, zero-mul, zero-lt-suc, mul-pos, one-le-pow}
 use lib.Dec.{leb, lit<}
+use Rattle.pressure.specs.declared.Order.the-variants.{PressureFirst}
 use Rattle.algebra.specs.Bisection.{bisect}
 use Rattle.algebra.proofs.Ring.{ring, quoted}
 use Rattle.cylinder.specs.declared.Cylinder.{Cylinder}
@@ -110,13 +111,13 @@ module _ (s : Cylinder) (m : ℕ) (pos : 0 < m) where
 -- ---- plates
 
 -- the judgement for whole stresses is the judge's, of a record without pressure
-pub whole-judged : (c : Record) → pressureOf (c .inner) ≡ 0 → judgementBy (cylinderOf (c .wall)) (whole (c .group .axial)) (whole (ringStress (cylinderOf (c .wall)) (c .group .ring))) (whole (c .group .shear)) ≡ judgementOfRecord c
+pub whole-judged : (c : Record) → pressureOf (c .inner) ≡ 0 → judgementBy (cylinderOf (c .wall)) (whole (c .group .axial)) (whole (ringStress (cylinderOf (c .wall)) (c .group .ring))) (whole (c .group .shear)) ≡ judgementOfRecord PressureFirst c
 unfolding judgementBy unpressedBounds
-whole-judged c none = sym (ap (λ (p : Pair). judgementOf (p .low) (p .high)) (plain-bounds c none))
+whole-judged c none = sym (ap (λ (p : Pair). judgementOf (p .low) (p .high)) (plain-bounds PressureFirst c none))
 
 -- and so a plate on which 100,000 f/t is a whole number for each force is judged as the line with these stresses
 pub whole-plate : (s : Shell) (f : Forces) (t σx σφ τ : ℕ) → 0 < t → 100000 * f .axial ≡ σx * t → 100000 * f .ring ≡ σφ * t → 100000 * f .shear ≡ τ * t →
-    plateJudgement s f t ≡ judgementOfRecord (recordOf (s .radius) t (s .length) (s .modulus) (s .«yield_stress») (s .edges) (s .imperfection) σx (Stress σφ) τ 0)
+    plateJudgement s f t ≡ judgementOfRecord PressureFirst (recordOf (s .radius) t (s .length) (s .modulus) (s .«yield_stress») (s .edges) (s .imperfection) σx (Stress σφ) τ 0)
 unfolding judgementBy
 whole-plate s f t σx σφ τ pos ex ey ez =
     ap (λ (p : Pair). judgementOf (p .low) (p .high)) (same ∙ sum-same C t pos 0 (whole σx) (whole σφ) (whole τ))

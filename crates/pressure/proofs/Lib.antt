@@ -9,4 +9,5 @@ pub mod Reduced
 pub mod WithGain
 pub mod TestRule
 pub mod Lines
+pub mod Orders
 pub mod Paper

@@ -1,5 +1,5 @@
 -- The theorem: L and U of `lineBounds` are right, for every cylinder within the limits and every internal pressure. Assumes nothing.
-use mathlib.Core.Path.{_≡_, refl, sym, _∙_}
+use mathlib.Core.Path.{_≡_, refl, sym, subst, _∙_}
 use mathlib.Core.Bool.{Bool, true, false, not}
 use mathlib.Core.Logic.{_⊎_, inl, inr, ⊎-elim}
 use Prim.Native.Nat.{ℕ, zero, suc, _+_, _*_, _-_, _≤_, _<_, max}
@@ -14,7 +14,6 @@ use Rattle.cylinder.specs.Sum.{Over}
 use Rattle.cylinder.specs.WholeIdeal
 use Rattle.cylinder.specs.Search.{grid, place, Pair, sumBounds}
 use Rattle.cylinder.specs.InLimits.{InLimits}
-use Rattle.cylinder.specs.Resistance.{q as found}
 use Rattle.cylinder.proofs.Limits.{Sound, sound, axial-lawful}
 use Rattle.cylinder.proofs.Far.{axial-far}
 use Rattle.cylinder.proofs.Agree.{axial-agree}
@@ -23,9 +22,11 @@ use Rattle.cylinder.proofs.Search.{part, placed}
 use Rattle.cylinder.proofs.SumBounds.{axial-bracket, ring-bracket, shear-bracket, sum-bounds}
 use Rattle.cylinder.proofs.Verdict.{Downward, sum-over-down, at-least-down}
 use Rattle.pressure.specs.Gain.{Acts}
-use Rattle.pressure.specs.GainTest.{Broken}
+use Rattle.pressure.specs.declared.Order.{Order}
+use Rattle.pressure.specs.declared.Order.the-variants.{ToleranceFirst, PressureFirst}
+use Rattle.pressure.specs.GainTest.{testRatio, Broken}
 use Rattle.pressure.specs.GainSum.{OverGain, LineOver, BoundsUnder}
-use Rattle.pressure.specs.WholeGain.{place38, lessened, fits-above, fits-below, acting, extra, chosen, lineBounds}
+use Rattle.pressure.specs.WholeGain.{place38, lessened, fits-above, fits-below, acting, extra, chosen, testedAt, lineBounds}
 use Rattle.pressure.proofs.Spots.{Placed38, placed38, axial-short}
 use Rattle.pressure.proofs.WithGain.{less, with-right, with-close}
 use Rattle.pressure.proofs.TestRule.{with-rule, without-rule, unclear-rule}
@@ -186,7 +187,19 @@ module _ (s : Cylinder) (ok : Sound s) (p : ℕ) (most : p ≤ 1000000) (i : ℕ
       go true e false f true g = mixed-line (acts-if s ok p e) f g
       go true e false f false g = plain-line (λ acts. without-rule s ok p most acts k q v j at at' i some-i g)
 
--- the test reads κ with the cylinder's own tolerance
-pub line-bounds-within : (s : Cylinder) → InLimits s → (p : ℕ) → p ≤ 1000000 → (σx σφ τ : Fraction) → 0 < σx .den → 0 < σφ .den → 0 < τ .den →
-    BoundsUnder s p (found s) σx σφ τ (lineBounds s p (s .imperfection) σx σφ τ .low) (lineBounds s p (s .imperfection) σx σφ τ .high)
-line-bounds-within s w p most = line-bounds s (sound s w) p most (s .imperfection) (w .imperfection-most)
+-- ---- by either reading of the test
+
+-- the imperfections that it reads κ at
+pub tested-most : (o : Order) (s : Cylinder) → InLimits s → testedAt o s ≤ 2000
+tested-most ToleranceFirst s w = w .imperfection-most
+tested-most PressureFirst s w = lit≤ tt
+
+pub tested-ratio : (o : Order) (s : Cylinder) → thousandths (max 1000 (testedAt o s)) ≡ testRatio o s
+tested-ratio ToleranceFirst s = refl
+tested-ratio PressureFirst s = refl
+
+pub line-bounds-within : (o : Order) (s : Cylinder) → InLimits s → (p : ℕ) → p ≤ 1000000 → (σx σφ τ : Fraction) → 0 < σx .den → 0 < σφ .den → 0 < τ .den →
+    BoundsUnder s p (testRatio o s) σx σφ τ (lineBounds s p (testedAt o s) σx σφ τ .low) (lineBounds s p (testedAt o s) σx σφ τ .high)
+line-bounds-within o s w p most σx σφ τ dx dφ dτ =
+    subst (λ (d : Fraction). BoundsUnder s p d σx σφ τ (lineBounds s p (testedAt o s) σx σφ τ .low) (lineBounds s p (testedAt o s) σx σφ τ .high)) (tested-ratio o s)
+    (line-bounds s (sound s w) p most (testedAt o s) (tested-most o s w) σx σφ τ dx dφ dτ)

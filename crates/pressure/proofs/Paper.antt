@@ -1,6 +1,6 @@
 -- What the definitions say where the request says it in another way, or where it can be seen by hand.
 use mathlib.Core.Path.{_≡_, refl, ap₂}
-use mathlib.Core.Bool.{true, false}
+use mathlib.Core.Bool.{Bool, true, false}
 use Prim.Native.Nat.{ℕ, _*_, _^_}
 use native.Mathlib.Omega.{arith}
 use Rattle.cylinder.specs.Fraction.{Fraction, _//_, whole, tenths, hundredths, thousandths, _⊘_, _atMost_}
@@ -55,6 +55,11 @@ fits-1 = (refl, refl)
 
 fits-above : (fits (whole 0) (hundredths 1_01) ≡ false) × (fits (whole 0) (whole 2) ≡ false)
 fits-above = (refl, refl)
+
+-- with imperfections as permitted the tolerance is 1: its denominator is its numerator
+no-tolerance : (from-1·5 : Bool) (g : Fraction) → tolerance from-1·5 (thousandths 1_000) g .num ≡ tolerance from-1·5 (thousandths 1_000) g .den
+no-tolerance true g = refl
+no-tolerance false g = omega arith
 
 -- ---- κ2 multiplied by the gain, or the stress divided by it: the same term
 module _ (s : Cylinder) (σ : Fraction) (b n : ℕ) (B : BranchG) (g h z : Fraction) where

@@ -1,4 +1,4 @@
--- SCOPE 25.3: the test by which the gain applies, (p/fy)(r/t) ≤ 0.5 √(1 - 0.75 κ²) - 0.25 κ, and when it is in doubt.
+-- SCOPE 25.3 and 27.1: the test by which the gain applies, (p/fy)(r/t) ≤ 0.5 √(1 - 0.75 κ²) - 0.25 κ, what its κ is by either order, and when it is in doubt.
 use Prim.Native.Nat.{ℕ, _<_}
 use mathlib.Core.Bool.{Bool, true, false}
 use mathlib.Core.Path.{_≡_}
@@ -6,7 +6,9 @@ use Rattle.cylinder.specs.declared.Cylinder.{Cylinder}
 use Rattle.cylinder.specs.Fraction.{Fraction, whole, hundredths, thousandths, _⊕_, _⊖_, _⊗_, _⊘_, _↑_, _atMost_}
 use Rattle.cylinder.specs.Number.{exactly}
 use Rattle.cylinder.specs.Ideal.{fy, r/t}
-use Rattle.cylinder.specs.Resistance.{κ2, tolerance, axialS}
+use Rattle.cylinder.specs.Resistance.{κ2, tolerance, q, axialS}
+use Rattle.pressure.specs.declared.Order.{Order}
+use Rattle.pressure.specs.declared.Order.the-variants.{ToleranceFirst, PressureFirst}
 use Rattle.pressure.specs.Gain.{inner, P38, BranchG, branchG, gain, Acts}
 
 -- the left side, (p/fy) (r/t)
@@ -21,10 +23,15 @@ fits a x = (a ⊕ x ⊘ whole 4) ↑ 2 atMost (whole 1 ⊖ hundredths 0_75 ⊗ x
 abbrev pub exceeds : Fraction → Fraction → Bool
 exceeds a x = (whole 1 ⊖ hundredths 0_75 ⊗ x ↑ 2) ⊘ whole 4 atMost (a ⊕ x ⊘ whole 4 ⊖ thousandths 1) ↑ 2
 
--- κ2 with tolerance and gain: what falls with S at g, the gain at h and z. The ratio is that of found to permitted imperfection; of a line it is the
--- cylinder's own, `q` (Resistance).
+-- κ2 with tolerance and gain: what falls with S at g, the gain at h and z. The ratio is that of found to permitted imperfection; for R it is the
+-- cylinder's own, `q` (Resistance), and for the test the one below.
 abbrev pub κ : Fraction → BranchG → Fraction → Fraction → Fraction → Fraction
 κ ratio B g h z = κ2 (B .curves) g ⊗ tolerance (B .curves .from-1·5) ratio g ⊗ gain (B .from-1) h z
+
+-- the ratio at which the test reads κ: with tolerance the cylinder's own; with pressure first it is 1, and so is the tolerance then (`no-tolerance`, proofs/Paper.antt)
+abbrev pub testRatio : Order → Cylinder → Fraction
+testRatio ToleranceFirst s = q s
+testRatio PressureFirst s = thousandths 1_000
 
 -- κ is at least its value here: what falls with S at g, from S upward, the gain at h and z, which S and P^0.38 reach; all in the branches of S
 pub record FromBelow (s : Cylinder) (p : ℕ) : Type 0 where
@@ -65,6 +72,13 @@ upper s p ratio u = κ ratio (branchG (axialS s)) (u .g) (u .h) (u .z)
 pub record Broken (s : Cylinder) (p : ℕ) (ratio : Fraction) : Type 0 where
   pub bound : FromBelow s p
   pub breaks : fits (A s p) (lower s p ratio bound) ≡ false
+
+-- SCOPE 27.2: the gain is lost by pressure first: the imperfections are over what is permitted, and the test is passed on κ with tolerance and not on κ without it
+pub record Loses (s : Cylinder) (p : ℕ) : Type 0 where
+  pub acts : Acts s p
+  pub dented : 1000 < s .imperfection
+  pub kept : ¬ (Broken s p (testRatio ToleranceFirst s))
+  pub lost : Broken s p (testRatio PressureFirst s)
 
 -- the test is in doubt, its two sides less than 1/1000 apart: with 1/1000 more on the left it is broken, seen at a bound of κ from below, and the left is not 1/1000 or
 -- more over the right, seen at a bound from above

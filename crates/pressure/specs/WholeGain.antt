@@ -12,6 +12,8 @@ use Rattle.cylinder.specs.Factor.{Factor, times}
 use Rattle.cylinder.specs.WholeCurves.{part2, reduction2, long, toleranceFactor}
 use Rattle.cylinder.specs.WholeIdeal.{axialIsShort, axialCut}
 use Rattle.cylinder.specs.Search.{grid, place, Pair, sumBounds}
+use Rattle.pressure.specs.declared.Order.{Order}
+use Rattle.pressure.specs.declared.Order.the-variants.{ToleranceFirst, PressureFirst}
 
 -- n/d rounded up
 abbrev pub roundedUp : ℕ → ℕ → ℕ
@@ -80,6 +82,11 @@ extra σ = min 1 (σ .num)
 -- with the gain where κ⁺ fits; where only κ⁻ does, L with it and U without; else without
 abbrev pub chosen : Bool → Bool → Bool → Pair → Pair → Pair
 chosen acts above below plain gained = pick acts (pick above gained (pick below (record { low = gained .low; high = plain .high }) plain)) plain
+
+-- the imperfections, in thousandths, at which the test reads κ
+abbrev pub testedAt : Order → Cylinder → ℕ
+testedAt ToleranceFirst s = s .imperfection
+testedAt PressureFirst s = 1000
 
 -- the imperfections of the test are i thousandths
 unfoldable pub lineBounds : Cylinder → ℕ → ℕ → Fraction → Fraction → Fraction → Pair

@@ -3,3 +3,4 @@ pub mod Answers
 pub mod Unique
 pub mod Shortfall
 pub mod OwnLines
+pub mod Orders

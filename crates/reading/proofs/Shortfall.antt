@@ -5,6 +5,7 @@ use native.Mathlib.Omega.{arith}
 use mathlib.Core.Logic.{_↔_, inl, inr}
 use mathlib.Core.List.{List, [], _∷_, _++_}
 use lib.ListN.{length, length-append}
+use Rattle.pressure.specs.declared.Order.{Order}
 use Rattle.text.specs.Bytes.{ascii, decimal}
 use Rattle.text.proofs.Laws.{decimal-length}
 use Rattle.format.specs.Texts.{Each}
@@ -24,15 +25,15 @@ use Rattle.reading.proofs.Inverse.{read-text, spells-once}
 use Rattle.reading.proofs.Answers.{answer-read}
 
 -- two lines that spell the same record have the same answer
-pub same-record : (l m : List ℕ) (c : LoadCases) → length l ≤ 512 → length m ≤ 512 → Spells l c → Spells m c → answerTo l ≡ answerTo m
-same-record l m c h h′ is is′ =
-    sym (answer-read l h (formOf l) refl c (read-text l c is) (casesAnswer c) refl) ∙ answer-read m h′ (formOf m) refl c (read-text m c is′) (casesAnswer c) refl
+pub same-record : (o : Order) (l m : List ℕ) (c : LoadCases) → length l ≤ 512 → length m ≤ 512 → Spells l c → Spells m c → answerTo o l ≡ answerTo o m
+same-record o l m c h h′ is is′ =
+    sym (answer-read o l h (formOf l) refl c (read-text l c is) (casesAnswer o c) refl) ∙ answer-read o m h′ (formOf m) refl c (read-text m c is′) (casesAnswer o c) refl
 
 -- and the same answers are right for both
-pub same-record-right : (l m : List ℕ) (c : LoadCases) → length l ≤ 512 → length m ≤ 512 → Spells l c → Spells m c → (a : Answer) → RightLine l a → RightLine m a
-same-record-right l m c h h′ is is′ _ (too-long k) = absurd (omega arith)
-same-record-right l m c h h′ is is′ _ (not-form k none) = absurd (none c is)
-same-record-right l m c h h′ is is′ a (of-cases d _ k that right) = of-cases c a h′ is′ (subst (λ (x : LoadCases). RightCases x a) (spells-once l d c that is) right)
+pub same-record-right : (o : Order) (l m : List ℕ) (c : LoadCases) → length l ≤ 512 → length m ≤ 512 → Spells l c → Spells m c → (a : Answer) → RightLine o l a → RightLine o m a
+same-record-right o l m c h h′ is is′ _ (too-long k) = absurd (omega arith)
+same-record-right o l m c h h′ is is′ _ (not-form k none) = absurd (none c is)
+same-record-right o l m c h h′ is is′ a (of-cases d _ k that right) = of-cases c a h′ is′ (subst (λ (x : LoadCases). RightCases o x a) (spells-once l d c that is) right)
 
 -- ---- the lines of a record are short enough
 
@@ -82,11 +83,11 @@ module _ (c : LoadCases) where
     short : length (textWithoutShortfall c) ≤ 512
     short = omega (arith, text-without-shorter, most)
 
-    pub without-shortfall : answerTo (textWithoutShortfall c) ≡ answerTo (text c)
-    without-shortfall = same-record (textWithoutShortfall c) (text c) c short most lacks full
+    pub without-shortfall : (o : Order) → answerTo o (textWithoutShortfall c) ≡ answerTo o (text c)
+    without-shortfall o = same-record o (textWithoutShortfall c) (text c) c short most lacks full
 
-    pub without-shortfall-right : (a : Answer) → RightLine (textWithoutShortfall c) a ↔ RightLine (text c) a
-    without-shortfall-right a = (
-      λ r. same-record-right (textWithoutShortfall c) (text c) c short most lacks full a r,
-      λ r. same-record-right (text c) (textWithoutShortfall c) c most short full lacks a r,
+    pub without-shortfall-right : (o : Order) (a : Answer) → RightLine o (textWithoutShortfall c) a ↔ RightLine o (text c) a
+    without-shortfall-right o a = (
+      λ r. same-record-right o (textWithoutShortfall c) (text c) c short most lacks full a r,
+      λ r. same-record-right o (text c) (textWithoutShortfall c) c most short full lacks a r,
     )

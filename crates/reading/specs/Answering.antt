@@ -3,6 +3,7 @@ use Prim.Native.Nat.{ℕ}
 use mathlib.Core.List.{List}
 use lib.ListN.{length}
 use lib.Dec.{ltb}
+use Rattle.pressure.specs.declared.Order.{Order}
 use Rattle.algebra.specs.Choice.{pick}
 use Rattle.answer.specs.declared.Answer.{Answer}
 use Rattle.answer.specs.declared.Answer.the-variants as Answer
@@ -11,9 +12,9 @@ use Rattle.reading.specs.Answers.{lineMost}
 use Rattle.reading.specs.Reading.{Form, Read, formOf}
 use Rattle.reading.specs.Reading as Form
 
-abbrev pub answerForm : Form → Answer
-answerForm (Form.Refused n) = Answer.Refused n
-answerForm (Form.Read c) = casesAnswer c
+abbrev pub answerForm : Order → Form → Answer
+answerForm o (Form.Refused n) = Answer.Refused n
+answerForm o (Form.Read c) = casesAnswer o c
 
-unfoldable pub answerTo : List ℕ → Answer
-answerTo l = pick (ltb lineMost (length l)) (Answer.Refused 4) (answerForm (formOf l))
+unfoldable pub answerTo : Order → List ℕ → Answer
+answerTo o l = pick (ltb lineMost (length l)) (Answer.Refused 4) (answerForm o (formOf l))

@@ -5,3 +5,4 @@ pub mod Trial
 pub mod Shortfall
 pub mod Wind
 pub mod Pressure
+pub mod Orders

@@ -7,7 +7,8 @@ use borrow.Author.Tests.{leb-true}
 use Rattle.cylinder.specs.declared.Cylinder.{Cylinder}
 use Rattle.cylinder.specs.Fraction.{Fraction, whole, _//_}
 use Rattle.cylinder.specs.Search.{Pair}
-use Rattle.pressure.specs.WholeGain.{lineBounds}
+use Rattle.pressure.specs.declared.Order.{Order}
+use Rattle.pressure.specs.WholeGain.{testedAt, lineBounds}
 use Rattle.line_bounds.specs.Places.{Whole}
 use Rattle.cylinder.specs.InLimits.{InLimits}
 use Rattle.bounds.specs.declared.Load.{Load}
@@ -36,10 +37,10 @@ load-whole l (n, d) = λ i. n i // d i
 pub load-whole-range : {x : ℕ} (l : Load) → (l .num ≡ x) × (l .den ≡ 1) → x ≤ 700000 → Whole l
 load-whole-range l (n, d) h = (omega (arith, n, h), d)
 
-pub bounds-are : (s t : Cylinder) (p p′ : ℕ) (X Y Z : Load) (x y z : ℕ) (low high : ℕ) → s ≡ t → p ≡ p′ → (X .num ≡ x) × (X .den ≡ 1) → (Y .num ≡ y) × (Y .den ≡ 1) → (Z .num ≡ z) × (Z .den ≡ 1) →
-    low ≡ lineBounds s p (s .imperfection) (fractionOf X) (fractionOf Y) (fractionOf Z) .low → high ≡ lineBounds s p (s .imperfection) (fractionOf X) (fractionOf Y) (fractionOf Z) .high →
-    judgementOf low high ≡ judgementOf (lineBounds t p′ (t .imperfection) (whole x) (whole y) (whole z) .low) (lineBounds t p′ (t .imperfection) (whole x) (whole y) (whole z) .high)
-bounds-are s t p p′ X Y Z x y z low high e f ex ey ez l h = λ i. judgementOf ((l ∙ ap (λ (p : Pair). p .low) same) i) ((h ∙ ap (λ (p : Pair). p .high) same) i)
+pub bounds-are : (o : Order) (s t : Cylinder) (p p′ : ℕ) (X Y Z : Load) (x y z : ℕ) (low high : ℕ) → s ≡ t → p ≡ p′ → (X .num ≡ x) × (X .den ≡ 1) → (Y .num ≡ y) × (Y .den ≡ 1) → (Z .num ≡ z) × (Z .den ≡ 1) →
+    low ≡ lineBounds s p (testedAt o s) (fractionOf X) (fractionOf Y) (fractionOf Z) .low → high ≡ lineBounds s p (testedAt o s) (fractionOf X) (fractionOf Y) (fractionOf Z) .high →
+    judgementOf low high ≡ judgementOf (lineBounds t p′ (testedAt o t) (whole x) (whole y) (whole z) .low) (lineBounds t p′ (testedAt o t) (whole x) (whole y) (whole z) .high)
+bounds-are o s t p p′ X Y Z x y z low high e f ex ey ez l h = λ i. judgementOf ((l ∙ ap (λ (p : Pair). p .low) same) i) ((h ∙ ap (λ (p : Pair). p .high) same) i)
   where
-    same : lineBounds s p (s .imperfection) (fractionOf X) (fractionOf Y) (fractionOf Z) ≡ lineBounds t p′ (t .imperfection) (whole x) (whole y) (whole z)
-    same = λ i. lineBounds (e i) (f i) (e i .imperfection) (load-whole X ex i) (load-whole Y ey i) (load-whole Z ez i)
+    same : lineBounds s p (testedAt o s) (fractionOf X) (fractionOf Y) (fractionOf Z) ≡ lineBounds t p′ (testedAt o t) (whole x) (whole y) (whole z)
+    same = λ i. lineBounds (e i) (f i) (testedAt o (e i)) (load-whole X ex i) (load-whole Y ey i) (load-whole Z ez i)

@@ -8,6 +8,7 @@ use Prim.Native.Nat.{ℕ, _≤_}
 use native.Mathlib.Omega.{arith}
 use lib.Dec.{leb, lit≤}
 use borrow.Author.Tests.{leb-true}
+use Rattle.pressure.specs.declared.Order.{Order}
 use Rattle.algebra.specs.Choice.{pick}
 use Rattle.algebra.proofs.Tests.{clash}
 use Rattle.cylinder.specs.declared.Cylinder.{Cylinder}
@@ -21,7 +22,7 @@ use Rattle.answer.specs.Answering.{firstOr, judgementOf}
 use Rattle.answer.specs.Right.{AsCase, refused, judged}
 use Rattle.answer.proofs.Checks.{among-every, all-passed}
 use Rattle.answer.proofs.Right
-use Rattle.pressure.specs.WholeGain.{lineBounds}
+use Rattle.pressure.specs.WholeGain.{testedAt, lineBounds}
 use Rattle.line_bounds.specs.declared.Gain.{Gain}
 use Rattle.line_bounds.specs.declared.Gain.the-variants.{Idle}
 use Rattle.line_bounds.specs.Means.{GainMeans}
@@ -61,16 +62,16 @@ module _ (k : Check) (passed : k .passed ≡ true) where
   first-less f a (h ∷ ks) = ap (λ x. pick (h .passed) x (f (h .refusal))) (first-less f a ks)
 
 -- L and U at a pressure of 0
-at-nought : (s : Cylinder) (x y z : Fraction) → lineBounds s 0 (s .imperfection) x y z ≡ sumBounds 0 s x y z
+at-nought : (o : Order) (s : Cylinder) (x y z : Fraction) → lineBounds s 0 (testedAt o s) x y z ≡ sumBounds 0 s x y z
 unfolding lineBounds
-at-nought s x y z = refl
+at-nought o s x y z = refl
 
-bounds-at : (s : Cylinder) (x y z : Fraction) (p : ℕ) → p ≡ 0 → lineBounds s p (s .imperfection) x y z ≡ sumBounds 0 s x y z
-bounds-at s x y z p e = ap (λ (n : ℕ). lineBounds s n (s .imperfection) x y z) e ∙ at-nought s x y z
+bounds-at : (o : Order) (s : Cylinder) (x y z : Fraction) (p : ℕ) → p ≡ 0 → lineBounds s p (testedAt o s) x y z ≡ sumBounds 0 s x y z
+bounds-at o s x y z p e = ap (λ (n : ℕ). lineBounds s n (testedAt o s) x y z) e ∙ at-nought o s x y z
 
-module _ (c : Record) (none : pressureOf (c .inner) ≡ 0) where
+module _ (o : Order) (c : Record) (none : pressureOf (c .inner) ≡ 0) where
   -- the exact sum is the one without a gain
-  pub plain-over : (x y : ℕ) → RecordOver c x y ↔ UnpressedOver c x y
+  pub plain-over : (x y : ℕ) → RecordOver o c x y ↔ UnpressedOver c x y
   plain-over x y = (
     λ o. o .without-gain (inl (λ a. omega (arith, none, a .pressed))),
     λ o. record { with-gain = λ a _. absurd (omega (arith, none, a .pressed)); without-gain = λ _. o },
@@ -82,7 +83,7 @@ module _ (c : Record) (none : pressureOf (c .inner) ≡ 0) where
   abbrev last : Check
   last = check 16 (pressureAllowed (c .inner))
 
-  to-bounds : (j : Judgement) → Bounds c j → BoundsOf (UnpressedOver c) j
+  to-bounds : (j : Judgement) → Bounds o c j → BoundsOf (UnpressedOver c) j
   to-bounds j b =
       record {
         encloses =
@@ -92,10 +93,10 @@ module _ (c : Record) (none : pressureOf (c .inner) ≡ 0) where
               L-most = b .encloses .L-most;
               U-most = b .encloses .U-most;
             };
-        close = close-plain c j none b;
+        close = close-plain o c j none b;
       }
 
-  from-bounds : (j : Judgement) → BoundsOf (UnpressedOver c) j → Bounds c j
+  from-bounds : (j : Judgement) → BoundsOf (UnpressedOver c) j → Bounds o c j
   from-bounds j b =
       record {
         encloses =
@@ -110,51 +111,51 @@ module _ (c : Record) (none : pressureOf (c .inner) ≡ 0) where
       }
 
   -- so are the right answers
-  pub plain-right : (a : Answer) → Right c a ↔ UnpressedRight c a
+  pub plain-right : (a : Answer) → Right o c a ↔ UnpressedRight c a
   plain-right a = (to a, from a)
     where
-      to : (a : Answer) → Right c a → UnpressedRight c a
+      to : (a : Answer) → Right o c a → UnpressedRight c a
       to _ (refused n f) = refused n (broken-less last allowed (unpressedChecks c) n f)
       to _ (judged j all (b, k) v) = judged j (passed-less last allowed (unpressedChecks c) all) (to-bounds j b, k) v
 
-      from : (a : Answer) → UnpressedRight c a → Right c a
+      from : (a : Answer) → UnpressedRight c a → Right o c a
       from _ (refused n f) = refused n (broken-more last allowed (unpressedChecks c) n f)
       from _ (judged j all (b, k) v) = judged j (passed-more last allowed (unpressedChecks c) all) (from-bounds j b, k) v
 
   -- so no refusal is over 13
-  pub plain-range : (n : ℕ) → Right c (Refused n) → n ≤ 13
+  pub plain-range : (n : ℕ) → Right o c (Refused n) → n ≤ 13
   plain-range n r =
       among-every (λ m. m ≤ 13) (6 ∷ 7 ∷ 11 ∷ 8 ∷ 9 ∷ 10 ∷ 13 ∷ []) n (Right.refused-among (unpressedChecks c) (AsCase 1 (BoundsOf (UnpressedOver c))) n (plain-right (Refused n) .0 r))
       (lit≤ tt, (lit≤ tt, (lit≤ tt, (lit≤ tt, (lit≤ tt, (lit≤ tt, (lit≤ tt, tt)))))))
 
   -- L and U are the same
-  pub plain-bounds : boundsOf c ≡ unpressedBounds c
+  pub plain-bounds : boundsOf o c ≡ unpressedBounds c
   unfolding boundsOf unpressedBounds
-  plain-bounds = let s = cylinderOf (c .wall) in bounds-at s (whole (c .group .axial)) (whole (ringStress s (c .group .ring))) (whole (c .group .shear)) (pressureOf (c .inner)) none
+  plain-bounds = let s = cylinderOf (c .wall) in bounds-at o s (whole (c .group .axial)) (whole (ringStress s (c .group .ring))) (whole (c .group .shear)) (pressureOf (c .inner)) none
 
   -- and the program's answer
-  pub plain-answer : recordAnswer c ≡ unpressedAnswer c
+  pub plain-answer : recordAnswer o c ≡ unpressedAnswer c
   unfolding recordAnswer unpressedAnswer
   plain-answer =
-      first-less last allowed Refused (Judged (judgementOf (boundsOf c .low) (boundsOf c .high))) (unpressedChecks c)
+      first-less last allowed Refused (Judged (judgementOf (boundsOf o c .low) (boundsOf o c .high))) (unpressedChecks c)
       ∙ ap (λ (b : Pair). firstOr Refused (Judged (judgementOf (b .low) (b .high))) (unpressedChecks c)) plain-bounds
 
 -- a missing group, and one with a pressure of 0
-pub nought-right : (c : Record) (a : Answer) → Right (withInner Missing c) a ↔ Right (withInner (Given 0) c) a
-nought-right c a = (λ r. r, λ r. r)
+pub nought-right : (o : Order) (c : Record) (a : Answer) → Right o (withInner Missing c) a ↔ Right o (withInner (Given 0) c) a
+nought-right o c a = (λ r. r, λ r. r)
 
-pub nought-answer : (c : Record) → recordAnswer (withInner Missing c) ≡ recordAnswer (withInner (Given 0) c)
+pub nought-answer : (o : Order) (c : Record) → recordAnswer o (withInner Missing c) ≡ recordAnswer o (withInner (Given 0) c)
 unfolding recordAnswer boundsOf
-nought-answer c = refl
+nought-answer o c = refl
 
 -- ---- what the program says of the gain is so
-pub record-gain : (c : Record) (g : Gain) → g ≡ gainOfRecord c → (g ≡ gainOfRecord c) × (AllPassed (checks c) → GainMeans (cylinderOf (c .wall)) (pressureOf (c .inner)) g)
+pub record-gain : (o : Order) (c : Record) (g : Gain) → g ≡ gainOfRecord o c → (g ≡ gainOfRecord o c) × (AllPassed (checks c) → GainMeans o (cylinderOf (c .wall)) (pressureOf (c .inner)) g)
 unfolding gainOfRecord
-record-gain c g e = (
+record-gain o c g e = (
   e,
   λ all.
       let s = cylinderOf (c .wall) in
       let p = pressureOf (c .inner) in
       let few = leb-true p 1000000 (all .1 .1 .1 .1 .1 .1 .1 .0) in
-      subst (GainMeans s p) (sym (e ∙ all-passed (λ n. Idle) (gainOf s p) (checks c) all)) (gain-means s (cylinder-within c all) p few),
+      subst (GainMeans o s p) (sym (e ∙ all-passed (λ n. Idle) (gainOf o s p) (checks c) all)) (gain-means o s (cylinder-within c all) p few),
 )

@@ -8,6 +8,7 @@ use mathlib.Core.Logic.{_↔_, _⊎_, inl, inr}
 use mathlib.Core.List.{List, [], _∷_}
 use lib.Dec.{leb, ltb}
 use borrow.Author.Tests.{le-leb, lt-leb, leb-true, leb-false, le-ltb}
+use Rattle.pressure.specs.declared.Order.{Order}
 use Rattle.algebra.specs.Choice.{pick}
 use Rattle.algebra.proofs.Tests.{clash, pick-either}
 use Rattle.cylinder.specs.declared.Cylinder.{Cylinder}
@@ -38,7 +39,7 @@ ratio-nominal w =
     λ i. doubled (20 * w .thickness) (100 * w .radius) (20 * (2 * w .thickness)) (200 * w .radius) (omega arith) (omega arith) i
     && doubled (100 * w .radius) (2500 * w .thickness) (200 * w .radius) (2500 * (2 * w .thickness)) (omega arith) (omega arith) i
 
-module _ (c : Record) (small : c .wall .shortfall ≤ 50) (e : effectiveWall (c .wall) ≡ 2 * c .wall .thickness) where
+module _ (o : Order) (c : Record) (small : c .wall .shortfall ≤ 50) (e : effectiveWall (c .wall) ≡ 2 * c .wall .thickness) where
   passed : leb (c .wall .shortfall) 50 ≡ true
   passed = le-leb (c .wall .shortfall) 50 small
 
@@ -56,7 +57,7 @@ module _ (c : Record) (small : c .wall .shortfall ≤ 50) (e : effectiveWall (c 
   From8 b n = FirstBroken (check 8 b ∷ behind) n
 
   abbrev Claim : Cylinder → Judgement → Type 0
-  Claim s = AsCase 1 (GroupBounds s (pressureOf (c .inner)) (c .group))
+  Claim s = AsCase 1 (GroupBounds o s (pressureOf (c .inner)) (c .group))
 
   fewer : (n : ℕ) → FirstBroken (checks c) n → FirstBroken (nominalChecks c) n
   fewer n (inl x) = inl x
@@ -70,26 +71,26 @@ module _ (c : Record) (small : c .wall .shortfall ≤ 50) (e : effectiveWall (c 
   further n (inr (p, inr (q, more))) = inr (p, inr (q, inr (passed, subst (λ (b : Bool). From8 b n) (sym same-ratio) more)))
 
   -- what is right is the same
-  pub nominal-right : (a : Answer) → Right c a ↔ NominalRight c a
+  pub nominal-right : (a : Answer) → Right o c a ↔ NominalRight o c a
   nominal-right a = (λ r. to a r, λ r. back a r)
     where
-      to : (a : Answer) → Right c a → NominalRight c a
+      to : (a : Answer) → Right o c a → NominalRight o c a
       to _ (refused n f) = refused n (fewer n f)
       to _ (judged j (p, (q, (d, (w, more)))) b v) = judged j (p, (q, (sym same-ratio ∙ w, more))) (subst (λ (s : Cylinder). Claim s j) same-cylinder b) v
 
-      back : (a : Answer) → NominalRight c a → Right c a
+      back : (a : Answer) → NominalRight o c a → Right o c a
       back _ (refused n f) = refused n (further n f)
       back _ (judged j (p, (q, (w, more))) b v) =
           judged j (p, (q, (passed, (same-ratio ∙ w, more)))) (subst (λ (s : Cylinder). Claim s j) (sym same-cylinder) b) v
 
   -- and so is the program's answer
-  pub nominal-answer : recordAnswer c ≡ nominalAnswer c
+  pub nominal-answer : recordAnswer o c ≡ nominalAnswer o c
   unfolding recordAnswer boundsOf nominalAnswer nominalBounds
   nominal-answer = λ i. by (same-cylinder i) (passed i) (same-ratio i)
     where
       by : Cylinder → Bool → Bool → Answer
       by s allowed ratio =
-          let b = groupBounds s (pressureOf (c .inner)) (c .group) in
+          let b = groupBounds o s (pressureOf (c .inner)) (c .group) in
           firstOr Refused (Judged (judgementOf (b .low) (b .high)))
           (check 6 (inRange c) ∷ check 7 (edgesKnown (c .wall)) ∷ check 11 allowed ∷ check 8 ratio ∷ behind)
 
@@ -98,12 +99,12 @@ module _ (c : Record) (small : c .wall .shortfall ≤ 50) (e : effectiveWall (c 
 zero-nominal : (w : Wall) → w .shortfall ≡ 0 → effectiveWall w ≡ 2 * w .thickness
 zero-nominal w z = pick-either (λ (x : ℕ). x ≡ 2 * w .thickness) (shortfallCounts w) (omega (arith, z)) refl
 
-module _ (c : Record) (z : c .wall .shortfall ≡ 0) where
-  pub zero-right : (a : Answer) → Right c a ↔ NominalRight c a
-  zero-right a = nominal-right c (omega (arith, z)) (zero-nominal (c .wall) z) a
+module _ (o : Order) (c : Record) (z : c .wall .shortfall ≡ 0) where
+  pub zero-right : (a : Answer) → Right o c a ↔ NominalRight o c a
+  zero-right a = nominal-right o c (omega (arith, z)) (zero-nominal (c .wall) z) a
 
-  pub zero-answer : recordAnswer c ≡ nominalAnswer c
-  zero-answer = nominal-answer c (omega (arith, z)) (zero-nominal (c .wall) z)
+  pub zero-answer : recordAnswer o c ≡ nominalAnswer o c
+  zero-answer = nominal-answer o c (omega (arith, z)) (zero-nominal (c .wall) z)
 
 -- ---- from t = 500 up, with a d within its limit
 
@@ -113,18 +114,18 @@ counts-not w h = le-ltb (w .thickness) 500 h
 thick-nominal : (w : Wall) → 500 ≤ w .thickness → effectiveWall w ≡ 2 * w .thickness
 thick-nominal w h = rw (counts-not w h) refl
 
-module _ (c : Record) (thick : 500 ≤ c .wall .thickness) where
-  pub thick-right : c .wall .shortfall ≤ 50 → (a : Answer) → Right c a ↔ NominalRight c a
-  thick-right small a = nominal-right c small (thick-nominal (c .wall) thick) a
+module _ (o : Order) (c : Record) (thick : 500 ≤ c .wall .thickness) where
+  pub thick-right : c .wall .shortfall ≤ 50 → (a : Answer) → Right o c a ↔ NominalRight o c a
+  thick-right small a = nominal-right o c small (thick-nominal (c .wall) thick) a
 
-  pub thick-answer : c .wall .shortfall ≤ 50 → recordAnswer c ≡ nominalAnswer c
-  thick-answer small = nominal-answer c small (thick-nominal (c .wall) thick)
+  pub thick-answer : c .wall .shortfall ≤ 50 → recordAnswer o c ≡ nominalAnswer o c
+  thick-answer small = nominal-answer o c small (thick-nominal (c .wall) thick)
 
 -- two such records that differ in d alone: neither their right answers nor the program's differ
-module _ (c : Record) (thick : 500 ≤ c .wall .thickness) (d d′ : ℕ) (small : d ≤ 50) (small′ : d′ ≤ 50) where
-  pub thick-same-right : (a : Answer) → Right (withShortfall d c) a → Right (withShortfall d′ c) a
-  thick-same-right a r = thick-right (withShortfall d′ c) thick small′ a .1 (thick-right (withShortfall d c) thick small a .0 r)
+module _ (o : Order) (c : Record) (thick : 500 ≤ c .wall .thickness) (d d′ : ℕ) (small : d ≤ 50) (small′ : d′ ≤ 50) where
+  pub thick-same-right : (a : Answer) → Right o (withShortfall d c) a → Right o (withShortfall d′ c) a
+  thick-same-right a r = thick-right o (withShortfall d′ c) thick small′ a .1 (thick-right o (withShortfall d c) thick small a .0 r)
 
-  pub thick-same-answer : recordAnswer (withShortfall d c) ≡ recordAnswer (withShortfall d′ c)
+  pub thick-same-answer : recordAnswer o (withShortfall d c) ≡ recordAnswer o (withShortfall d′ c)
   unfolding nominalAnswer
-  thick-same-answer = thick-answer (withShortfall d c) thick small ∙ sym (thick-answer (withShortfall d′ c) thick small′)
+  thick-same-answer = thick-answer o (withShortfall d c) thick small ∙ sym (thick-answer o (withShortfall d′ c) thick small′)

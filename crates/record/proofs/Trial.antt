@@ -4,6 +4,7 @@ use Prim.Native.Nat.{_≤_}
 use native.Mathlib.Omega.{arith}
 use lib.Dec.{lit≤}
 use Rattle.cylinder.proofs.Verdict
+use Rattle.pressure.specs.declared.Order.the-variants.{PressureFirst}
 use Rattle.pressure.specs.WholeGain.{lineBounds}
 use Rattle.answer.specs.declared.Verdict.the-variants.{Holds, Fails}
 use Rattle.answer.specs.Checks.{AllPassed}
@@ -14,12 +15,12 @@ use Rattle.record.specs.Trial.{B, B2000, Row, TrialRows}
 use Rattle.record.proofs.Right.{bounds-right, record-down, only-holds, only-fails}
 
 module _ (c : Record) (plain : pressureOf (c .inner) ≡ 0) (all : AllPassed (checks c)) where
-  holding : boundsOf c .high ≤ 9998 → Row c Holds
+  holding : boundsOf PressureFirst c .high ≤ 9998 → Row c Holds
   holding h =
-      record { meant = Verdict.holds-only (bounds-right c all .encloses) (record-down c) (omega arith); answered = λ a r. only-holds c plain all a r h }
+      record { meant = Verdict.holds-only (bounds-right PressureFirst c all .encloses) (record-down PressureFirst c) (omega arith); answered = λ a r. only-holds PressureFirst c plain all a r h }
 
-  failing : 10003 ≤ boundsOf c .low → Row c Fails
-  failing h = record { meant = Verdict.fails-only (bounds-right c all .encloses) (omega arith); answered = λ a r. only-fails c plain all a r h }
+  failing : 10003 ≤ boundsOf PressureFirst c .low → Row c Fails
+  failing h = record { meant = Verdict.fails-only (bounds-right PressureFirst c all .encloses) (omega arith); answered = λ a r. only-fails PressureFirst c plain all a r h }
 
 pub trial-rows : TrialRows
 unfolding boundsOf lineBounds

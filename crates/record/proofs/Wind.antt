@@ -8,6 +8,7 @@ use Prim.Native.Nat.{ℕ, _≤_}
 use native.Mathlib.Omega.{arith}
 use lib.Dec.{leb, lit≤}
 use borrow.Author.Tests.{leb-true, le-leb}
+use Rattle.pressure.specs.declared.Order.{Order}
 use Rattle.algebra.proofs.Tests.{and-true, clash}
 use Rattle.cylinder.specs.declared.Cylinder.{Cylinder}
 use Rattle.wind.specs.Wind.{windStress, WindStress}
@@ -72,10 +73,10 @@ plain-broken c σφ n plain none (inr (_, inr (_, inr (_, inr (_, inr (_, inr (_
 plain-broken c σφ n plain none (inr (_, inr (_, inr (_, inr (_, inr (_, inr (_, inr (_, inl (f, is))))))))) = absurd (clash (ap pressureAllowed none) f)
 plain-broken c σφ n plain none (inr (_, inr (_, inr (_, inr (_, inr (_, inr (_, inr (_, inr (_, rest))))))))) = absurd rest
 
-pub plain-refusal : (c : Record) (σφ n : ℕ) → c .group .ring ≡ Stress σφ → c .inner ≡ Missing → Right c (Refused n) → (6 ≤ n) × (n ≤ 11)
-plain-refusal c σφ n plain none r = go (Refused n) r refl
+pub plain-refusal : (o : Order) (c : Record) (σφ n : ℕ) → c .group .ring ≡ Stress σφ → c .inner ≡ Missing → Right o c (Refused n) → (6 ≤ n) × (n ≤ 11)
+plain-refusal o c σφ n plain none r = go (Refused n) r refl
   where
-    go : (a : Answer) → Right c a → a ≡ Refused n → (6 ≤ n) × (n ≤ 11)
+    go : (a : Answer) → Right o c a → a ≡ Refused n → (6 ≤ n) × (n ≤ 11)
     go _ (refused m f) e = let same : m ≡ n = cc in plain-broken c σφ n plain none (subst (FirstBroken (checks c)) same f)
     go _ (judged j all b v) e = absurd (let z : _≡_ {A = ℕ} 0 1 = cc in omega arith)
 
@@ -84,7 +85,7 @@ same-range : (s : Cylinder) (ring : Ring) → ringInRange ring ≡ ringInRange (
 same-range s (Stress σφ) = refl
 same-range s (Wind w v) = sym (wind-in-range s w v)
 
-module _ (c : Record) (allowed : windAllowed (c .group .ring) ≡ true) where
+module _ (o : Order) (c : Record) (allowed : windAllowed (c .group .ring) ≡ true) where
   same-checks : checks c ≡ checks (asStress c)
   same-checks = λ i. by (same-range (cylinderOf (c .wall)) (c .group .ring) i) (allowed i)
     where
@@ -100,9 +101,9 @@ module _ (c : Record) (allowed : windAllowed (c .group .ring) ≡ true) where
           ∷ check 16 (pressureAllowed (c .inner))
           ∷ []
 
-  pub wind-right : (a : Answer) → Right c a ↔ Right (asStress c) a
-  wind-right a = (λ r. subst (λ (l : List Check). RightBy l (AsCase 1 (Bounds c)) a) same-checks r, λ r. subst (λ (l : List Check). RightBy l (AsCase 1 (Bounds c)) a) (sym same-checks) r)
+  pub wind-right : (a : Answer) → Right o c a ↔ Right o (asStress c) a
+  wind-right a = (λ r. subst (λ (l : List Check). RightBy l (AsCase 1 (Bounds o c)) a) same-checks r, λ r. subst (λ (l : List Check). RightBy l (AsCase 1 (Bounds o c)) a) (sym same-checks) r)
 
-  pub wind-answer : recordAnswer c ≡ recordAnswer (asStress c)
+  pub wind-answer : recordAnswer o c ≡ recordAnswer o (asStress c)
   unfolding recordAnswer boundsOf
-  wind-answer = ap (firstOr Refused (Judged (judgementOfRecord c))) same-checks
+  wind-answer = ap (firstOr Refused (Judged (judgementOfRecord o c))) same-checks

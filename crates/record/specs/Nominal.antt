@@ -3,6 +3,7 @@
 use Prim.Native.Nat.{ℕ, _*_}
 use mathlib.Core.Bool.{Bool}
 use mathlib.Core.List.{List, [], _∷_}
+use Rattle.pressure.specs.declared.Order.{Order}
 use Rattle.cylinder.specs.declared.Cylinder.{Cylinder}
 use Rattle.cylinder.specs.Search.{Pair}
 use Rattle.answer.specs.declared.Answer.{Answer}
@@ -35,13 +36,13 @@ nominalChecks c =
 abbrev pub nominalCylinder : Wall → Cylinder
 nominalCylinder w = cylinderBy (2 * w .thickness) w
 
-abbrev pub NominalRight : Record → Answer → Type 0
-NominalRight c = RightBy (nominalChecks c) (AsCase 1 (GroupBounds (nominalCylinder (c .wall)) (pressureOf (c .inner)) (c .group)))
+abbrev pub NominalRight : Order → Record → Answer → Type 0
+NominalRight o c = RightBy (nominalChecks c) (AsCase 1 (GroupBounds o (nominalCylinder (c .wall)) (pressureOf (c .inner)) (c .group)))
 
 -- how the program would answer then, to be compared with `recordAnswer`; what is right does not need it
-unfoldable pub nominalBounds : Record → Pair
-nominalBounds c = groupBounds (nominalCylinder (c .wall)) (pressureOf (c .inner)) (c .group)
+unfoldable pub nominalBounds : Order → Record → Pair
+nominalBounds o c = groupBounds o (nominalCylinder (c .wall)) (pressureOf (c .inner)) (c .group)
 
-unfoldable pub nominalAnswer : Record → Answer
+unfoldable pub nominalAnswer : Order → Record → Answer
 unfolding nominalBounds
-nominalAnswer c = firstOr Refused (Judged (judgementOf (nominalBounds c .low) (nominalBounds c .high))) (nominalChecks c)
+nominalAnswer o c = firstOr Refused (Judged (judgementOf (nominalBounds o c .low) (nominalBounds o c .high))) (nominalChecks c)

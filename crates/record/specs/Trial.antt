@@ -1,6 +1,7 @@
 -- The rows marked P in SCOPE 15, together: for each, what the exact sum is, and that every right answer has the verdict.
 use Prim.Native.Nat.{ℕ}
 use mathlib.Core.Path.{_≡_}
+use Rattle.pressure.specs.declared.Order.the-variants.{PressureFirst}
 use Rattle.answer.specs.declared.Verdict.{Verdict}
 use Rattle.answer.specs.declared.Verdict.the-variants.{Holds, Fails}
 use Rattle.answer.specs.declared.Judgement.{Judgement}
@@ -20,8 +21,8 @@ abbrev pub B2000 : ℕ → ℕ → ℕ → Record
 B2000 σx σφ τ = recordOf 5000 500 10000 210000 240 12 2000 σx (Stress σφ) τ 0
 
 pub record Row (c : Record) (v : Verdict) : Type 0 where
-  pub meant : MeansFor c v
-  pub answered : (a : Answer) → Right c a → (j : Judgement) × ((a ≡ Judged j) × (j .verdict ≡ v))
+  pub meant : MeansFor PressureFirst c v
+  pub answered : (a : Answer) → Right PressureFirst c a → (j : Judgement) × ((a ≡ Judged j) × (j .verdict ≡ v))
 
 pub record TrialRows : Type 0 where
   pub axial-holds : Row (B 20700 0 0) Holds

@@ -9,6 +9,7 @@ ghost use Rattle.line_bounds.specs.Means.{GainMeans};
 ghost use Rattle.record.specs.Limits.{fromTo, inRange, dimensions, material, ringInRange, stresses, edgesKnown, effectiveWall, wallRatio, lengthRatio, tolerated, windAllowed, pressureOf, checks, cylinderOf, recordOf, withInner};
 ghost use Rattle.record.specs.Right.{ringStress, Right};
 ghost use Rattle.guess.specs.Roots.{RootTable};
+ghost use Rattle.pressure.specs.declared.Order.the-variants.{PressureFirst};
 ghost use Rattle.record.specs.Answering.{WorkedOn, judgementOfRecord, recordAnswer, ringStressOf, gainOfRecord};
 use answer::Answer;
 use answer::Judgement;
@@ -16,6 +17,7 @@ use bounds::Load;
 use cylinder::Cylinder;
 use line_bounds::Gain;
 use line_bounds::Worked;
+use pressure::Order;
 
 // A shell without its load: its wall, material and edges. Each field is any u64.
 pub struct Wall {
@@ -330,9 +332,9 @@ impl Record {
     }
 
     // The judgement of a record that breaks no check.
-    fn judgement(self) -> Judgement
+    fn judgement(self, o: Order) -> Judgement
         requires { ⌜ AllPassed (checks self) ⌝ }
-        ensures { λ r. ⌜ r ≡ judgementOfRecord self ⌝ }
+        ensures { λ r. ⌜ r ≡ judgementOfRecord o self ⌝ }
     {
         let wall = self.wall;
         let group = self.group;
@@ -342,14 +344,14 @@ impl Record {
         let y = load(ring.stress_on(s));
         let z = load(group.shear);
         let inner = self.inner;
-        let b = line_bounds::of_line(s, inner.pressure(), x, y, z);
+        let b = line_bounds::of_line(o, s, inner.pressure(), x, y, z);
         Judgement::by_bounds(b.low, b.high)
     }
 
     // The same, where what depends on the wall alone has been worked before.
-    pub fn judgement_by(self, roots: &[u8; 1024], w: Worked) -> Judgement
-        requires { ⌜ AllPassed (checks self) × WorkedOn self w × RootTable (now roots) ⌝ }
-        ensures { λ r. ⌜ r ≡ judgementOfRecord self ⌝ }
+    pub fn judgement_by(self, o: Order, roots: &[u8; 1024], w: Worked) -> Judgement
+        requires { ⌜ AllPassed (checks self) × WorkedOn o self w × RootTable (now roots) ⌝ }
+        ensures { λ r. ⌜ r ≡ judgementOfRecord o self ⌝ }
     {
         let wall = self.wall;
         let group = self.group;
@@ -359,7 +361,7 @@ impl Record {
         let y = load(ring.stress_on(s));
         let z = load(group.shear);
         let inner = self.inner;
-        let l = line_bounds::of_group(roots, s, inner.pressure(), w, x, y, z);
+        let l = line_bounds::of_group(roots, o, s, inner.pressure(), w, x, y, z);
         Judgement::by_bounds(l.low, l.high)
     }
 
@@ -411,29 +413,29 @@ impl Record {
         ring.stress_on(wall.cylinder())
     }
 
-    // What the pressure does to a record that breaks no check; nothing, where it breaks one.
-    pub fn gain(self) -> Gain
-        ensures { λ r. ⌜ r ≡ gainOfRecord self ⌝ }
-        ensures { λ r. ⌜ (AllPassed (checks self) → GainMeans (cylinderOf (self .wall)) (pressureOf (self .inner)) r) ⌝ }
+    // What the pressure does to a record that breaks no check, by a reading of its test; nothing, where it breaks one.
+    pub fn gain(self, o: Order) -> Gain
+        ensures { λ r. ⌜ r ≡ gainOfRecord o self ⌝ }
+        ensures { λ r. ⌜ (AllPassed (checks self) → GainMeans o (cylinderOf (self .wall)) (pressureOf (self .inner)) r) ⌝ }
     {
         let wall = self.wall;
         let inner = self.inner;
         if 0 < self.refusal() {
             return Gain::Idle;
         }
-        line_bounds::gain_under(wall.cylinder(), inner.pressure())
+        line_bounds::gain_under(o, wall.cylinder(), inner.pressure())
     }
 
-    // The answer to a record: the number of the first check that it breaks, or the judgement.
-    pub fn answer(self) -> Answer
-        ensures { λ r. ⌜ r ≡ recordAnswer self ⌝ }
-        ensures { λ r. ⌜ Right self r ⌝ }
+    // The answer to a record, by a reading of the pressure's test: the number of the first check that it breaks, or the judgement.
+    pub fn answer(self, o: Order) -> Answer
+        ensures { λ r. ⌜ r ≡ recordAnswer o self ⌝ }
+        ensures { λ r. ⌜ Right o self r ⌝ }
     {
         let n = self.refusal();
         if 0 < n {
             return Answer::Refused(n);
         }
-        Answer::Judged(self.judgement())
+        Answer::Judged(self.judgement(o))
     }
 
     // The record of its parts in the order of the calls from C.
@@ -490,8 +492,8 @@ impl Record {
         shear: u64,
         shortfall: u64,
     ) -> Answer
-        ensures { λ r. ⌜ r ≡ recordAnswer (recordOf radius thickness length modulus «yield_stress» edges imperfection axial ring shear shortfall) ⌝ }
-        ensures { λ r. ⌜ Right (recordOf radius thickness length modulus «yield_stress» edges imperfection axial ring shear shortfall) r ⌝ }
+        ensures { λ r. ⌜ r ≡ recordAnswer PressureFirst (recordOf radius thickness length modulus «yield_stress» edges imperfection axial ring shear shortfall) ⌝ }
+        ensures { λ r. ⌜ Right PressureFirst (recordOf radius thickness length modulus «yield_stress» edges imperfection axial ring shear shortfall) r ⌝ }
     {
         let c = Self::of(
             radius,
@@ -506,6 +508,6 @@ impl Record {
             shear,
             shortfall,
         );
-        c.answer()
+        c.answer(Order::PressureFirst)
     }
 }

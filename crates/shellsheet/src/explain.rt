@@ -16,6 +16,7 @@ use line_bounds::Gain;
 use lines::after_line;
 use lines::first_line;
 use listing::Counts;
+use pressure::Order;
 use reading::read;
 use record::Group;
 use record::Inner;
@@ -151,7 +152,7 @@ fn say_inner(ok: bool, c: Record, inner: Inner) -> bool {
             if p == 0 {
                 return ok;
             }
-            say_gain(ok, c.gain())
+            say_gain(ok, c.gain(Order::PressureFirst))
         }
     }
 }
@@ -183,7 +184,7 @@ fn say_verdict(ok: bool, j: Judgement) -> bool {
 
 // A load case of several, with its own verdict.
 fn say_case(ok: bool, k: u64, c: Record) -> bool {
-    let Answer::Judged(j) = c.answer() else {
+    let Answer::Judged(j) = c.answer(Order::PressureFirst) else {
         return ok;
     };
     let ok = say_one(ok, b"\n  case %", k);
@@ -314,7 +315,7 @@ fn say_answer(ok: bool, a: Answer, line: &[u8]) -> bool {
 // Line k of a sheet.
 fn say_line(ok: bool, k: u64, line: &[u8]) -> bool {
     let ok = say_one(ok, b"line %", k);
-    let ok = say_answer(ok, sheet::answer(line), line);
+    let ok = say_answer(ok, sheet::answer(line, Order::PressureFirst), line);
     say(ok, b"\n")
 }
 

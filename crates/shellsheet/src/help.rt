@@ -3,13 +3,13 @@ use crate::say::say;
 
 // The version, as include/shellsheet.h has it.
 pub(crate) fn say_version() -> bool {
-    say(true, b"shellsheet 0.7\n")
+    say(true, b"shellsheet 0.8\n")
 }
 
 fn say_usage() -> bool {
     say(
         true,
-        b"usage: shellsheet [--explain] [--] [FILE..]\n\nLists a verdict to DIN 18800-4 for each line of a sheet. Without FILE, or for -,\nthe sheet is standard input. Several files: each listing below a line ==> FILE <==\n\n  --explain  the answers in words: the sum, or what broke the check\n  --help     this text\n  --version  the version\n  --         ends the options: what follows are files\n\n",
+        b"usage: shellsheet [--explain | --readings] [--] [FILE..]\n\nLists a verdict to DIN 18800-4 for each line of a sheet. Without FILE, or for -,\nthe sheet is standard input. Several files: each listing below a line ==> FILE <==\n\n  --explain   the answers in words: the sum, or what broke the check\n  --readings  (line old new) for each line whose verdict is new since 0.8, where the\n              test of an internal pressure reads kappa2 without the tolerance\n  --help      this text\n  --version   the version\n  --          ends the options: what follows are files\n\n",
     )
 }
 

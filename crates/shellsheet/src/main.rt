@@ -1,4 +1,4 @@
-// Lists sheets, or says their answers in words: shellsheet [--explain] [--] [FILE..]. Without a file the sheet is standard input.
+// Lists sheets, says their answers in words, or compares two readings of a test: shellsheet [--explain | --readings] [--] [FILE..]. Without a file the sheet is standard input.
 mod checks;
 mod explain;
 mod form;
@@ -39,6 +39,18 @@ fn say_listing(ok: bool, sheet: &[u8]) -> bool {
     say_refusal(ok, refusal)
 }
 
+// Writes a row for each line whose verdicts by the two readings of the pressure's test differ.
+fn say_readings(ok: bool, sheet: &[u8]) -> bool {
+    let mut rows = [0u8; 24616];
+    let outcome = readings::run(sheet, &mut rows);
+    let refusal = outcome.refusal;
+    let length = outcome.length;
+    if refusal == 0 {
+        return say(ok, &rows[..length]);
+    }
+    say_refusal(ok, refusal)
+}
+
 // Writes the line that stands above a listing, if there are several.
 fn say_heading(name: &[u8], o: Options) -> bool {
     if o.sheets < 2 {
@@ -54,6 +66,9 @@ fn say_sheet(name: &[u8], sheet: &[u8], o: Options) -> bool {
     let ok = say_heading(name, o);
     if o.explain {
         return say_answers(ok, sheet);
+    }
+    if o.readings {
+        return say_readings(ok, sheet);
     }
     say_listing(ok, sheet)
 }

@@ -8,6 +8,7 @@ enum Word {
     Sheet,
     End,
     Explain,
+    Readings,
     Help,
     Version,
     Unknown,
@@ -20,6 +21,7 @@ pub(crate) struct Options {
     pub(crate) help: bool,
     pub(crate) version: bool,
     pub(crate) explain: bool,
+    pub(crate) readings: bool,
     // how many sheets are named: 0, 1, or 2 for more
     pub(crate) sheets: u64,
     // which argument ends the options, or how many arguments there are
@@ -64,6 +66,9 @@ fn word_of(arg: &[u8]) -> Word {
     if same(arg, b"--explain") {
         return Word::Explain;
     }
+    if same(arg, b"--readings") {
+        return Word::Readings;
+    }
     if same(arg, b"--help") {
         return Word::Help;
     }
@@ -91,6 +96,7 @@ impl Options {
             help: false,
             version: false,
             explain: false,
+            readings: false,
             sheets: 0,
             end: count,
         }
@@ -116,6 +122,10 @@ impl Options {
             }
             Word::Explain => {
                 o.explain = true;
+                o
+            }
+            Word::Readings => {
+                o.readings = true;
                 o
             }
             Word::Help => {

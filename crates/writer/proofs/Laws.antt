@@ -9,6 +9,8 @@ use mathlib.Core.List.{List, [], _∷_, _++_, append-nil}
 use lib.ListN.{length, length-append, length-take}
 use lib.Dec.{leb, eqb}
 use borrow.Author.Tests.{leb-true, le-leb, lt-leb, eqb-true}
+use Rattle.pressure.specs.declared.Order.{Order}
+use Rattle.pressure.specs.declared.Order.the-variants.{PressureFirst}
 use Rattle.text.specs.Bytes.{ascii, decimal, lines}
 use Rattle.text.specs.Slices.{put}
 use Rattle.text.proofs.Laws.{decimal-length, decimal-least, decimal-some, put-all}
@@ -281,17 +283,17 @@ module _ (c : LoadCases) (count : countAllowed c ≡ true) (all : AllPassed (cas
   written-reads = read-text (text c) c line-spells
 
   -- and has the program's answer to them
-  pub written-answer : answerTo (text c) ≡ casesAnswer c
-  written-answer = sym (answer-read (text c) text-most (formOf (text c)) refl c written-reads (casesAnswer c) refl)
+  pub written-answer : (o : Order) → answerTo o (text c) ≡ casesAnswer o c
+  written-answer o = sym (answer-read o (text c) text-most (formOf (text c)) refl c written-reads (casesAnswer o c) refl)
 
   -- and so are the right answers to it those to the load cases
-  pub written-right : (a : Answer) → RightLine (text c) a ↔ RightCases c a
-  written-right a = (λ r. to a r, λ r. of-cases c a text-most line-spells r)
+  pub written-right : (o : Order) (a : Answer) → RightLine o (text c) a ↔ RightCases o c a
+  written-right o a = (λ r. to a r, λ r. of-cases c a text-most line-spells r)
     where
-      to : (a : Answer) → RightLine (text c) a → RightCases c a
+      to : (a : Answer) → RightLine o (text c) a → RightCases o c a
       to _ (too-long h) = absurd (omega (arith, h, text-most))
       to _ (not-form h none) = absurd (none c line-spells)
-      to _ (of-cases d a h is right) = subst (λ (x : LoadCases). RightCases x a) (spells-once (text c) d c is line-spells) right
+      to _ (of-cases d a h is right) = subst (λ (x : LoadCases). RightCases o x a) (spells-once (text c) d c is line-spells) right
 
   -- and is put, where the buffer has room
   pub line-put : (out : List ℕ) → 512 ≤ length out → writing c out ≡ (Put (length (lineOf c)), startingWith (lineOf c) out)
@@ -343,7 +345,7 @@ written-apart c out out′ _ (refuses m f e) = (λ n q. below m f, λ n q. absur
     below : (m : ℕ) → FirstBroken (writerChecks (length out) c) m → m ≤ 16
     below m (inl (f, is)) = omega (arith, is)
     below m (inr (t, inl (f, is))) = omega (arith, is)
-    below m (inr (t, inr (u, f))) = omega (arith, cases-range c m (refused m f) .1)
+    below m (inr (t, inr (u, f))) = omega (arith, cases-range PressureFirst c m (refused m f) .1)
 written-apart c out out′ _ (puts (t, (count, all)) e) = (λ n q. absurd (let z : _≡_ {A = ℕ} 0 1 = cc in omega arith), λ n q. omega (arith, line-long c count all))
 
 -- without pressure a refusal is 13 at most
@@ -375,14 +377,14 @@ pub record Rewritten (l : List ℕ) : Type 0 where
   pub same-text : (l ≡ text cases-of) ⊎ ((cases-of .wall .shortfall ≡ 0) × (l ≡ textWithoutShortfall cases-of))
   pub put-again : (out : List ℕ) → 512 ≤ length out → writing cases-of out ≡ (Put (length (lineOf cases-of)), startingWith (lineOf cases-of) out)
 
-pub rewritten : (l : List ℕ) (j : Judgement) → RightLine l (Answer.Judged j) → Rewritten l
+pub rewritten : (o : Order) (l : List ℕ) (j : Judgement) → RightLine o l (Answer.Judged j) → Rewritten l
 unfolding Spells
-rewritten l j r = go (Answer.Judged j) r refl
+rewritten o l j r = go (Answer.Judged j) r refl
   where
-    of : (c : LoadCases) → RightCases c (Answer.Judged j) → AllPassed (caseChecks c)
+    of : (c : LoadCases) → RightCases o c (Answer.Judged j) → AllPassed (caseChecks c)
     of c (judged _ all b v) = all
 
-    go : (a : Answer) → RightLine l a → a ≡ Answer.Judged j → Rewritten l
+    go : (a : Answer) → RightLine o l a → a ≡ Answer.Judged j → Rewritten l
     go _ (too-long h) q = absurd (let z : _≡_ {A = ℕ} 0 1 = cc in omega arith)
     go _ (not-form h none) q = absurd (let z : _≡_ {A = ℕ} 0 1 = cc in omega arith)
     go _ (of-cases c a h is right) q =
@@ -390,7 +392,7 @@ rewritten l j r = go (Answer.Judged j) r refl
           cases-of = c;
           is-read = read-text l c is;
           same-text = is .1;
-          put-again = λ out room. line-put c (count-allowed c (record { some = spells-some l c is; few = spells-few l c is })) (of c (subst (RightCases c) q right)) out room;
+          put-again = λ out room. line-put c (count-allowed c (record { some = spells-some l c is; few = spells-few l c is })) (of c (subst (RightCases o c) q right)) out room;
         }
 
 -- ---- for the code

@@ -1,6 +1,7 @@
 -- `capi::shell_judge` meets its contract. Assumes nothing.
 use mathlib.Core.Path.{ap, _∙_}
 use borrow.Author.Needs.{needs}
+use Rattle.pressure.specs.declared.Order.the-variants.{PressureFirst}
 use Rattle.answer.specs.Answers.{answerNumber}
 use Rattle.record.specs.declared.Ring.the-variants.{Stress}
 use Rattle.record.specs.Limits.{recordOf}
@@ -14,7 +15,7 @@ judge-requires c κs = search needs
 number-requires : tie.Need-number-requires
 number-requires c κs =
     let x = c .before .args in
-    right-bounded (recordOf (x .r) (x .t) (x .l) (x .e) (x .fy) (x .edges) (x .a) (x .sx) (Stress (x .sphi)) (x .tau) (x .d)) _ (c .judge .ensures .1)
+    right-bounded PressureFirst (recordOf (x .r) (x .t) (x .l) (x .e) (x .fy) (x .edges) (x .a) (x .sx) (Stress (x .sphi)) (x .tau) (x .d)) _ (c .judge .ensures .1)
 
 returns : tie.Need-returns
 returns c =

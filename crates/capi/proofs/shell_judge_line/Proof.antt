@@ -10,7 +10,7 @@ answer-requires : tie.Need-answer-requires
 answer-requires c κs = search needs
 
 number-requires : tie.Need-number-requires
-number-requires c κs = line-bounded _ _ (c .answer .ensures .0)
+number-requires c κs = line-bounded _ _ _ (c .answer .ensures .0)
 
 returns : tie.Need-returns
 returns c =

@@ -7,10 +7,9 @@ use lib.ListN.{length, length-map}
 use Rattle.text.specs.Bytes.{isNewline, lines}
 use Rattle.text.specs.Slices.{after}
 use Rattle.text.proofs.Laws.{rest-less, lines-le}
-use Rattle.reading.specs.Answering.{answerTo}
 use Rattle.listing.proofs.Turns.{Here, here-first, here-room, here-turn, here-within, here-counts, here-total, here-listing}
 use Rattle.outcome.specs.Sheet.{listingBy}
-use Rattle.outcome.specs.Running.{answers, listing}
+use Rattle.outcome.specs.Running.{ruled, answers, listing}
 use Rattle.outcome.proofs.Laws.{answers-next, answers-none, listed}
 use Rattle.sheet.proofs.put_listing.Statement.{statement}
 use Rattle.sheet.proofs.put_listing.Tie as tie
@@ -42,7 +41,7 @@ with-requires : tie.Need-with-requires Inv-loop μ-loop
 with-requires c κs =
     let sheet = c .before .before .before .before .before .before .before .args .sheet .now in
     let w = here-within _ _ _ _ _ _ (c .before .before .before .loop .inv) in
-    omega (arith, lines-le sheet, length-map (lines sheet) answerTo, c .before .before .before .before .before .before .before .pre .0)
+    omega (arith, lines-le sheet, length-map (lines sheet) ruled, c .before .before .before .before .before .before .before .pre .0)
 
 put-entry-requires : tie.Need-put-entry-requires Inv-loop μ-loop
 unfolding listingBy

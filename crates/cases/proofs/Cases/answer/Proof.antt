@@ -3,6 +3,7 @@ use mathlib.Core.Path.{_≡_, sym, ap, _∙_, subst}
 use native.Mathlib.Omega.{arith}
 use borrow.Author.Needs.{needs}
 use lib.ListN.{getD}
+use Rattle.pressure.specs.declared.Order.{Order}
 use Rattle.answer.specs.declared.Answer.{Answer}
 use Rattle.answer.specs.declared.Answer.the-variants.{Refused, Judged}
 use Rattle.answer.proofs.Checks.{first-broken, all-passed, refusal-broken, refusal-none}
@@ -15,8 +16,8 @@ use Rattle.cases.proofs.Cases.answer.Statement.{statement}
 use Rattle.cases.proofs.Cases.answer.Tie as tie
 
 -- what the program answers is right
-laid : (c : Cases) → Counted c → (a : Answer) → a ≡ casesAnswer (loadCases c) → (a ≡ casesAnswer (loadCases c)) × RightCases (loadCases c) a
-laid c k a e = (e, subst (RightCases (loadCases c)) (sym e) (cases-right (loadCases c) (some-taken (c .groups) (c .count) (k .some) (omega (arith, k .size)))))
+laid : (o : Order) (c : Cases) → Counted c → (a : Answer) → a ≡ casesAnswer o (loadCases c) → (a ≡ casesAnswer o (loadCases c)) × RightCases o (loadCases c) a
+laid o c k a e = (e, subst (RightCases o (loadCases c)) (sym e) (cases-right o (loadCases c) (some-taken (c .groups) (c .count) (k .some) (omega (arith, k .size)))))
 
 case-at-requires : tie.Need-case-at-requires
 case-at-requires c κs = search needs
@@ -30,11 +31,11 @@ returns c =
     let a = k .before .before .before in
     let self = a .args .self in
     let same = one-taken (self .groups) (self .count) (k .before .if1 .taken) (omega (arith, a .pre .size)) in
-    laid self (a .pre) _
+    laid (a .args .o) self (a .pre) _
     (c .answer .ensures .0
-    ∙ ap recordAnswer (k .case-at .ensures)
-    ∙ sym (one-answer (self .wall) (getD (self .groups) 0 noGroup) (self .inner))
-    ∙ (λ i. casesAnswer (record { wall = self .wall; groups = same i; inner = self .inner })))
+    ∙ ap (recordAnswer (a .args .o)) (k .case-at .ensures)
+    ∙ sym (one-answer (a .args .o) (self .wall) (getD (self .groups) 0 noGroup) (self .inner))
+    ∙ (λ i. casesAnswer (a .args .o) (record { wall = self .wall; groups = same i; inner = self .inner })))
 
 refusal-requires : tie.Need-refusal-requires
 refusal-requires c κs = search needs
@@ -45,7 +46,7 @@ returns-2 c =
     let f = c .before in
     let a = f .before .before .before in
     let l = loadCases (a .args .self) in
-    laid (a .args .self) (a .pre) _ (sym (first-broken Refused _ (caseChecks l) _ (refusal-broken (caseChecks l) (cases-above l) _ (f .refusal .ensures) (c .if2 .taken))))
+    laid (a .args .o) (a .args .self) (a .pre) _ (sym (first-broken Refused _ (caseChecks l) _ (refusal-broken (caseChecks l) (cases-above l) _ (f .refusal .ensures) (c .if2 .taken))))
 
 judgement-requires : tie.Need-judgement-requires
 judgement-requires c κs =
@@ -61,7 +62,7 @@ returns-3 c =
     let f = e .before in
     let a = f .before .before .before in
     let l = loadCases (a .args .self) in
-    laid (a .args .self) (a .pre) _
+    laid (a .args .o) (a .args .self) (a .pre) _
     (ap Judged (c .judgement .ensures) ∙ sym (all-passed Refused _ (caseChecks l) (refusal-none (caseChecks l) (cases-above l) _ (f .refusal .ensures) (e .if2 .left))))
 
 pub answer-spec : {M : Type 1} → statement M

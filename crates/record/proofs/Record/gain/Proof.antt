@@ -21,7 +21,7 @@ returns : tie.Need-returns
 unfolding gainOfRecord
 returns c =
     let self = c .before .before .before .args .self in
-    record-gain self _ (sym (first-broken (λ n. Idle) _ (checks self) _ (refusal-broken (checks self) (above-none self) _ (c .before .refusal .ensures) (c .if1 .taken))))
+    record-gain (c .before .before .before .args .o) self _ (sym (first-broken (λ n. Idle) _ (checks self) _ (refusal-broken (checks self) (above-none self) _ (c .before .refusal .ensures) (c .if1 .taken))))
 
 cylinder-requires : tie.Need-cylinder-requires
 cylinder-requires c κs =
@@ -43,9 +43,9 @@ unfolding gainOfRecord
 returns-2 c =
     let k = c .before .before .before in
     let self = k .before .before .before .args .self in
-    record-gain self _
+    record-gain (k .before .before .before .args .o) self _
     (c .gain-under .ensures .0
-    ∙ (λ i. gainOf (c .before .before .cylinder .ensures i) (c .before .pressure .ensures i))
+    ∙ (λ i. gainOf (k .before .before .before .args .o) (c .before .before .cylinder .ensures i) (c .before .pressure .ensures i))
     ∙ sym (all-passed (λ n. Idle) _ (checks self) (refusal-none (checks self) (above-none self) _ (k .before .refusal .ensures) (k .if1 .left))))
 
 pub gain-spec : {M : Type 1} → statement M
