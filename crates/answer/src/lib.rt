@@ -1,4 +1,6 @@
 // The answer to a record: a refusal, or a judgement with its verdict and bounds; and the one number that stands for it in C.
+#![tactic(auto)]
+
 ghost use Rattle.std.specs.Prelude.{◌≡◌, ◌+◌, ◌*◌, ◌≤◌};
 ghost use Rattle.answer.specs.declared.Answer.TheVariants.{Judged};
 ghost use Rattle.answer.specs.Answers.{verdict_number, judgement_number, answer_number};
@@ -6,7 +8,7 @@ ghost use Rattle.answer.specs.Governing.{severity_of, worse_of};
 ghost use Rattle.answer.specs.Answering.{judgement_of, of_case, Bounded};
 
 // What is said of a shell.
-#[derive(Drop)]
+#[derive(Clone, Copy)]
 pub enum Verdict {
     Holds,
     Fails,
@@ -14,7 +16,7 @@ pub enum Verdict {
 }
 
 // A judged record: the verdict, L and U in ten-thousandths, and the load case that governs, counted from 1.
-#[derive(Drop)]
+#[derive(Clone, Copy)]
 pub struct Judgement {
     pub verdict: Verdict,
     pub low: u64,
@@ -23,7 +25,7 @@ pub struct Judgement {
 }
 
 // The answer to a record: the number of the first check that it breaks, or the judgement.
-#[derive(Drop)]
+#[derive(Clone, Copy)]
 pub enum Answer {
     Refused(u64),
     Judged(Judgement),

@@ -1,5 +1,7 @@
 // Axial stress, long, where Cx falls with the length: how the related slenderness S compares with a fraction p/q. The ideal
 // stress is a difference with a root, so the two sides are compared by their squares. Nothing is rounded.
+#![tactic(auto)]
+
 ghost use Rattle.cylinder.specs.InLimits.{InLimits};
 ghost use Rattle.cylinder.specs.WholeIdeal.{axial_bent};
 ghost use Rattle.cylinder.specs.Cut.{root_of};

@@ -1,5 +1,7 @@
 // Bounds of the exact sum (50) of a cylinder: the place of each related slenderness S on a grid and the branches of the curves in which it lies,
 // each term from below by one rule, and L and U from the terms. The places depend on the cylinder alone, so several loads share them.
+#![tactic(auto)]
+
 ghost use Rattle.std.specs.Prelude.{◌≡◌, true, leb, ◌+◌, ◌*◌, ◌/◌, ◌≤◌, ◌<◌, min};
 ghost use Rattle.wide.specs.Value.{base};
 ghost use Rattle.guess.specs.Roots.{RootTable};
@@ -19,21 +21,21 @@ use slenderness_terms::Terms;
 use term::{Branches, Part};
 
 // A stress of num/den kN/m².
-#[derive(Drop)]
+#[derive(Clone, Copy)]
 pub struct Load {
     pub num: u64,
     pub den: u64,
 }
 
 // Bounds of a term in millionths, or of the sum in ten-thousandths.
-#[derive(Drop)]
+#[derive(Clone, Copy)]
 pub struct Bounds {
     pub low: u64,
     pub high: u64,
 }
 
 // Where S lies for a stress: from at/grid to (at + 1)/grid, in these branches of the curves.
-#[derive(Drop)]
+#[derive(Clone, Copy)]
 pub struct Spot {
     pub grid: u64,
     pub at: u64,
@@ -41,7 +43,7 @@ pub struct Spot {
 }
 
 // That for each stress.
-#[derive(Drop)]
+#[derive(Clone, Copy)]
 pub struct Spots {
     pub axial: Spot,
     pub ring: Spot,
@@ -49,14 +51,14 @@ pub struct Spots {
 }
 
 // S lies from at/grid to (at + 1)/grid.
-#[derive(Drop)]
+#[derive(Clone, Copy)]
 struct Placed {
     grid: u64,
     at: u64,
 }
 
 // What is known of S before it is looked for: the length test, the terms of its comparisons, and a guess.
-#[derive(Drop)]
+#[derive(Clone, Copy)]
 struct Prepared {
     short: bool,
     terms: Terms,
@@ -142,7 +144,7 @@ fn within_at(kind: Stress, short: bool, s: Cylinder, p: Placed, a: u64, b: u64) 
 }
 
 // Where S lies to the limits of the curves' branches.
-#[derive(Drop)]
+#[derive(Clone, Copy)]
 struct Limits {
     // S is at most 1/4, 2/5, 1, 3/2
     within_quarter: bool,

@@ -1,4 +1,6 @@
 // The calls from C (SCOPE 13, 20.7, 21.5, 22.9, 22.10, 24.9, 25.8, 25.9, 26.8 and 26.9).
+#![tactic(auto)]
+
 ghost use Rattle.std.specs.Prelude.{◌≡◌, List, ℕ};
 ghost use Rattle.answer.specs.Answers.{answer_number};
 ghost use Rattle.answer.specs.Right.{NumberOfRight};

@@ -1,4 +1,6 @@
 // Many load cases on one shell: the checks of all, and the one that governs.
+#![tactic(auto)]
+
 ghost use Rattle.std.specs.Prelude.{◌≡◌, ◌&&◌, ◌||◌, ℕ, ◌+◌, ◌*◌, ◌≤◌, ◌<◌, length, take, get_or};
 ghost use Rattle.guess.specs.Roots.{RootTable};
 ghost use Rattle.answer.specs.Checks.{AllPassed};
@@ -16,7 +18,7 @@ use pressure::Order;
 use record::{Group, Inner, Record, Ring, Wall};
 
 // A shell with its load cases, the first `count` of the groups.
-#[derive(Drop)]
+#[derive(Clone, Copy)]
 pub struct Cases {
     pub wall: Wall,
     pub groups: [Group; 8],
@@ -25,7 +27,7 @@ pub struct Cases {
 }
 
 // Which places of S the load cases need.
-#[derive(Drop)]
+#[derive(Clone, Copy)]
 struct Wanted {
     axial: bool,
     ring: bool,
@@ -209,7 +211,7 @@ impl Cases {
 }
 
 // The load cases of a list of numbers, five for each; a count of 0 where there are none, more than 8, or the numbers are not in fives.
-#[derive(Drop)]
+#[derive(Clone, Copy)]
 pub struct Listed {
     pub groups: [Group; 8],
     pub count: usize,

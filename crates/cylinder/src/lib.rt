@@ -1,8 +1,9 @@
 // An unstiffened circular cylinder of constant wall, as DIN 18800-4 needs it. No code: specs/ says what its buckling check
 // is, and proofs/ what bounds of it are right.
+#![tactic(auto)]
 
 // Whole numbers, by SCOPE 2, save for the wall.
-#[derive(Drop)]
+#[derive(Clone, Copy)]
 pub struct Cylinder {
     // radius of the middle surface, mm
     pub radius: u64,
@@ -21,7 +22,7 @@ pub struct Cylinder {
 }
 
 // The stresses that are checked: along the axis, around the shell, and shear.
-#[derive(Drop)]
+#[derive(Clone, Copy)]
 pub enum Stress {
     Axial,
     Ring,

@@ -1,4 +1,6 @@
 // Writes the line of a listing for an answer.
+#![tactic(auto)]
+
 ghost use Rattle.std.specs.Prelude.{◌≡◌, ◌+◌, ◌≤◌, length};
 ghost use Rattle.text.specs.Slices.{put};
 ghost use Rattle.listing.specs.Listing.{verdict_word, said, entry, ended};

@@ -1,4 +1,6 @@
 // Parts of a line, each read at a place of the whole slice. A part that is not there is refused by 5: the line is not the form.
+#![tactic(auto)]
+
 ghost use Rattle.std.specs.Prelude.{◌≡◌};
 ghost use Rattle.format.specs.Readers.{starts_with, fixed, number, before};
 ghost use Rattle.format.specs.Places.{Answers, fixed_part, number_part};
@@ -6,14 +8,14 @@ ghost use Rattle.format.specs.Places.{Answers, fixed_part, number_part};
 use word::{Numeral, next_word, number_of};
 
 // Fixed bytes: the place after them, or the line's refusal.
-#[derive(Drop)]
+#[derive(Clone, Copy)]
 pub enum FixedAt {
     Read(usize),
     Refused(u64),
 }
 
 // A number and the place after it, or the line's refusal.
-#[derive(Drop)]
+#[derive(Clone, Copy)]
 pub enum NumberAt {
     Read(u64, usize),
     Refused(u64),

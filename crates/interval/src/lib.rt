@@ -1,6 +1,8 @@
 // Whole numbers known by bounds: a number of 64 bits, how much more it may be, and a power of two. Where bounds settle a
 // comparison, nothing has to be multiplied out. Bounds that say nothing are allowed everywhere, so no function has a
 // condition: what does not fit comes out as nothing known.
+#![tactic(auto)]
+
 ghost use Rattle.std.specs.Prelude.{◌≡◌, true, ℕ, ◌+◌, ◌-◌, ◌*◌, ◌/◌, ◌^◌, ◌<◌, ◌≤◌};
 ghost use Rattle.interval.specs.Around.{top, Around, Lies};
 ghost use Rattle.interval.specs.Levelled.{Fits, Levelled};
@@ -9,7 +11,7 @@ ghost use Rattle.interval.specs.Levelled.{Fits, Levelled};
 const HALF: u64 = 4294967296;
 
 // Bounds of a number: times 2^4096 it is from low · 2^up to (low + gap) · 2^up. Nothing is known where low is 0.
-#[derive(Drop)]
+#[derive(Clone, Copy)]
 pub struct Interval {
     pub low: u64,
     pub gap: u64,
@@ -17,7 +19,7 @@ pub struct Interval {
 }
 
 // Bounds of two numbers at one power: the first is from a to a + g, the second from b to b + h.
-#[derive(Drop)]
+#[derive(Clone, Copy)]
 struct Pair {
     a: u64,
     g: u64,
@@ -161,7 +163,7 @@ pub fn minus(a: Interval, b: Interval) -> Interval
 }
 
 // What bounds show of two numbers: the first is below the second, or above it, or they do not tell.
-#[derive(Drop)]
+#[derive(Clone, Copy)]
 pub enum Side {
     Below,
     Above,

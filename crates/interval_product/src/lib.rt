@@ -1,5 +1,7 @@
 // Bounds of 64 bits that enclose a product of many factors: factors are put together in words as long as they fit, and the
 // bounds of the words multiplied.
+#![tactic(auto)]
+
 ghost use Rattle.std.specs.Prelude.{◌≡◌, true, ℕ, ◌*◌, ◌<◌};
 ghost use Rattle.wide.specs.Value.{base};
 ghost use Rattle.factors.specs.Product.{prod};

@@ -1,4 +1,6 @@
 // The edges' factors of tables 1 and 2, and the length tests: whether a cylinder is short for a stress, decided exactly.
+#![tactic(auto)]
+
 ghost use Rattle.std.specs.Prelude.{◌≡◌, ◌≤◌};
 ghost use Rattle.cylinder.specs.InLimits.{InLimits};
 ghost use Rattle.cylinder.specs.WholeIdeal.{eta as etaOf, ring_edges, axial_is_short, ring_is_short, shear_is_short};

@@ -1,4 +1,6 @@
 // The listing of SCOPE 8, and the counts of its answers.
+#![tactic(auto)]
+
 ghost use Rattle.std.specs.Prelude.{◌≡◌, ◌<◌};
 ghost use Rattle.listing.specs.Listing.{no_counts};
 ghost use Rattle.listing.specs.Counting.{with_answer};
@@ -6,7 +8,7 @@ ghost use Rattle.listing.specs.Counting.{with_answer};
 use answer::{Answer, Verdict};
 
 // The five counts of a listing: of lines, and of the answers of each kind.
-#[derive(Drop)]
+#[derive(Clone, Copy)]
 pub struct Counts {
     pub lines: u64,
     pub holds: u64,

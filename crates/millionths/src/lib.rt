@@ -1,5 +1,7 @@
 // How many millionths a power of a fraction reaches, the fraction given by factors above and below: by bounds, where these
 // settle it, else by exact comparisons.
+#![tactic(auto)]
+
 ghost use Rattle.std.specs.Prelude.{◌≡◌, true, ℕ, ◌*◌, ◌≤◌, ◌^◌, length};
 ghost use Rattle.wide.specs.Value.{limbs, value, Limbs, Is};
 ghost use Rattle.factors.specs.Product.{prod};
@@ -13,7 +15,7 @@ use interval_root::{Found, guess_of};
 use wide::LIMBS;
 
 // The power of a fraction y/x that a term is: (y/x)^(5/4) for axial and ring stress, 3 (y/x)² for shear.
-#[derive(Drop)]
+#[derive(Clone, Copy)]
 pub enum Power {
     FiveQuarters,
     ThreeSquares,

@@ -1,4 +1,6 @@
 // What a run gives: the outcome of a sheet, and the check that turns a sheet back.
+#![tactic(auto)]
+
 ghost use Rattle.std.specs.Prelude.{◌≡◌, ◌≤◌, length};
 ghost use Rattle.text.specs.Bytes.{lines};
 ghost use Rattle.answer.specs.Answering.{refusal_by};
@@ -8,7 +10,7 @@ ghost use Rattle.outcome.specs.Sheet.{sheet_checks};
 use listing::Counts;
 
 // What a run returns: the number of the refusal or 0, the counts of answers, and how many bytes the listing has.
-#[derive(Drop)]
+#[derive(Clone, Copy)]
 pub struct Outcome {
     pub refusal: u64,
     pub counts: Counts,

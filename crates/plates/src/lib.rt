@@ -1,5 +1,7 @@
 // Choosing a stock plate (SCOPE 24): the first of a list whose verdict is holds. A thicker plate can fail where a thinner one holds, so each is
 // looked at by itself, one after the other.
+#![tactic(auto)]
+
 ghost use Rattle.std.specs.Prelude.{◌≡◌, true, ◌*◌, ◌≤◌, min, length};
 ghost use Rattle.text.specs.Slices.{up_to};
 ghost use Rattle.answer.specs.Answering.{refusal_by};
@@ -13,7 +15,7 @@ use cylinder::Cylinder;
 use record::{Record, Ring};
 
 // A shell without its thickness and its load. Each field is any u64.
-#[derive(Drop)]
+#[derive(Clone, Copy)]
 pub struct Shell {
     // r, radius of the middle surface, mm
     pub radius: u64,
@@ -30,7 +32,7 @@ pub struct Shell {
 }
 
 // Forces per length of edge, N/mm, compression positive.
-#[derive(Drop)]
+#[derive(Clone, Copy)]
 pub struct Forces {
     pub axial: u64,
     pub ring: u64,
@@ -38,7 +40,7 @@ pub struct Forces {
 }
 
 // What is chosen.
-#[derive(Drop)]
+#[derive(Clone, Copy)]
 pub enum Chosen {
     // the place of a plate in the list, from 1
     Place(usize),

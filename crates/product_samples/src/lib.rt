@@ -1,4 +1,6 @@
 // What a caller of the arithmetic writes, and what its proof costs: inequalities between products, decided exactly.
+#![tactic(auto)]
+
 ghost use Rattle.std.specs.Prelude.{◌≡◌, [], ◌∷◌, ◌+◌, ◌*◌, ◌^◌, ◌≤◌, leb, length};
 ghost use Rattle.wide.specs.Value.{limbs, Is};
 ghost use Rattle.factors.specs.Product.{prod};

@@ -1,4 +1,6 @@
 // One line of a sheet: the load cases that it spells, composed of its parts.
+#![tactic(auto)]
+
 ghost use Rattle.std.specs.Prelude.{◌≡◌, ◌≤◌, length};
 ghost use Rattle.format.specs.Readers.{changed};
 ghost use Rattle.format.specs.Places.{Answers, number_part};
@@ -11,40 +13,40 @@ use format::{FixedAt, NumberAt, fixed_at, number_after, number_at};
 use record::{Group, Inner, Ring, Wall};
 
 // What a line is: one that spells load cases, where the refusal is 0, or the line's refusal. An enum holds no array.
-#[derive(Drop)]
+#[derive(Clone, Copy)]
 pub struct Reading {
     pub refusal: u64,
     pub cases: Cases,
 }
 
 // A part of a line and the place after it, or the line's refusal.
-#[derive(Drop)]
+#[derive(Clone, Copy)]
 enum WallAt {
     Read(Wall, usize),
     Refused(u64),
 }
 
-#[derive(Drop)]
+#[derive(Clone, Copy)]
 enum RingAt {
     Read(Ring, usize),
     Refused(u64),
 }
 
-#[derive(Drop)]
+#[derive(Clone, Copy)]
 enum GroupAt {
     Read(Group, usize),
     Refused(u64),
 }
 
 // The groups are the first `count`, and a count of 0 is the line's refusal.
-#[derive(Drop)]
+#[derive(Clone, Copy)]
 struct GroupsAt {
     groups: [Group; 8],
     count: usize,
     next: usize,
 }
 
-#[derive(Drop)]
+#[derive(Clone, Copy)]
 enum InnerAt {
     Read(Inner, usize),
     Refused(u64),

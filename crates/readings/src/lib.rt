@@ -1,4 +1,6 @@
 // The run of both readings of the pressure's test: a row for each line of a sheet whose verdicts by the two differ.
+#![tactic(auto)]
+
 ghost use Rattle.std.specs.Prelude.{◌≡◌, List, ℕ, ◌+◌, ◌≤◌, length};
 ghost use Rattle.text.specs.Slices.{put};
 ghost use Rattle.pressure.specs.declared.Order.TheVariants.{ToleranceFirst, PressureFirst};
@@ -17,14 +19,14 @@ use sheet::answer;
 use text::{put_bytes, put_number};
 
 // What a run returns: the number of the refusal or 0, and how many bytes the rows have.
-#[derive(Drop)]
+#[derive(Clone, Copy)]
 pub struct Compared {
     pub refusal: u64,
     pub length: usize,
 }
 
 // What two answers to a line have for verdicts: the same or none, or two that differ.
-#[derive(Drop)]
+#[derive(Clone, Copy)]
 enum Change {
     Alike,
     Apart(Verdict, Verdict),

@@ -1,4 +1,6 @@
 // One record: its limits, and its judge.
+#![tactic(auto)]
+
 ghost use Rattle.std.specs.Prelude.{◌≡◌, true, ◌*◌, ◌≤◌};
 ghost use Rattle.answer.specs.Checks.{AllPassed};
 ghost use Rattle.answer.specs.Answering.{refusal_by};
@@ -17,7 +19,7 @@ use line_bounds::{Gain, Worked};
 use pressure::Order;
 
 // A shell without its load: its wall, material and edges. Each field is any u64.
-#[derive(Drop)]
+#[derive(Clone, Copy)]
 pub struct Wall {
     // r, radius of the middle surface, mm
     pub radius: u64,
@@ -38,7 +40,7 @@ pub struct Wall {
 }
 
 // The load around the shell.
-#[derive(Drop)]
+#[derive(Clone, Copy)]
 pub enum Ring {
     // σφ
     Stress(u64),
@@ -47,7 +49,7 @@ pub enum Ring {
 }
 
 // A stress group, kN/m², compression positive.
-#[derive(Drop)]
+#[derive(Clone, Copy)]
 pub struct Group {
     // σx
     pub axial: u64,
@@ -58,7 +60,7 @@ pub struct Group {
 }
 
 // The pressure inside the shell.
-#[derive(Drop)]
+#[derive(Clone, Copy)]
 pub enum Inner {
     // no group for it in the line
     Missing,
@@ -67,7 +69,7 @@ pub enum Inner {
 }
 
 // A shell with its load.
-#[derive(Drop)]
+#[derive(Clone, Copy)]
 pub struct Record {
     pub wall: Wall,
     pub group: Group,

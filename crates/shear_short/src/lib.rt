@@ -1,5 +1,7 @@
 // Shear, short: how the related slenderness S compares with a fraction p/q. The ideal stress is a sum with a root, so the two
 // sides are compared by their squares. Nothing is rounded.
+#![tactic(auto)]
+
 ghost use Rattle.cylinder.specs.InLimits.{InLimits};
 ghost use Rattle.cylinder.specs.WholeIdeal.{shear_short_cut};
 ghost use Rattle.root_order.specs.Decision.{Decides};

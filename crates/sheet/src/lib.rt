@@ -1,4 +1,6 @@
 // The sheet run: an answer for each line of a sheet, and the listing of the answers.
+#![tactic(auto)]
+
 ghost use Rattle.std.specs.Prelude.{◌≡◌, List, ℕ, ◌≤◌, length};
 ghost use Rattle.text.specs.Slices.{put};
 ghost use Rattle.reading.specs.Answers.{RightLine};

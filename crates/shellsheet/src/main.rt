@@ -1,4 +1,6 @@
 // Lists sheets, says their answers in words, or compares two readings of a test: shellsheet [--explain | --readings] [--] [FILE..]. Without a file the sheet is standard input.
+#![tactic(auto)]
+
 mod checks;
 mod explain;
 mod form;

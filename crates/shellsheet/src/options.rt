@@ -5,7 +5,7 @@ use check::same;
 use libc::STDERR_FILENO;
 
 // What an argument is.
-#[derive(Drop)]
+#[derive(Clone, Copy)]
 enum Word {
     Sheet,
     End,
@@ -17,7 +17,7 @@ enum Word {
 }
 
 // What the arguments ask for.
-#[derive(Drop)]
+#[derive(Clone, Copy)]
 pub(crate) struct Options {
     // one of them is no option that is known, and standard error says so
     pub(crate) unknown: bool,

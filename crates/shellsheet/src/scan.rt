@@ -2,7 +2,7 @@
 ghost use Rattle.std.specs.Prelude.{◌≤◌};
 
 // The first place of a line, counted from 0, that is not of the form.
-#[derive(Drop)]
+#[derive(Clone, Copy)]
 pub(crate) enum Stop {
     // such a byte of the form, or number, was expected there
     Expected(usize, u8),

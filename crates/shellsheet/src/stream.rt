@@ -5,7 +5,7 @@ ghost use Rattle.shellsheet.specs.Streams.{StepWithin, InputWithin};
 use libc::STDOUT_FILENO;
 
 // What one read or write did: so many bytes moved, nothing left to move, interrupted by a signal, or failed.
-#[derive(Drop)]
+#[derive(Clone, Copy)]
 enum Step {
     Moved(usize),
     Ended,
@@ -14,7 +14,7 @@ enum Step {
 }
 
 // What a sheet held: so many bytes, or a read failed.
-#[derive(Drop)]
+#[derive(Clone, Copy)]
 pub(crate) enum Input {
     Bytes(usize),
     Broken,

@@ -1,5 +1,7 @@
 // The largest point of a grid that the related slenderness S of a cylinder reaches: by bounds, where these settle it, else by
 // exact comparisons.
+#![tactic(auto)]
+
 ghost use Rattle.std.specs.Prelude.{◌≡◌, true, ℕ, ◌+◌, ◌-◌, ◌*◌, ◌^◌, ◌≤◌, ◌<◌};
 ghost use Rattle.wide.specs.Value.{base};
 ghost use Rattle.interval.specs.Around.{Around};

@@ -1,5 +1,7 @@
 // Bounds of the products by which the related slenderness S of a cylinder is compared with the points of a grid. They are put
 // together once for a stress, in words of 64 bits, and serve every point and both grids.
+#![tactic(auto)]
+
 ghost use Rattle.std.specs.Prelude.{◌≡◌, ◌*◌};
 ghost use Rattle.interval.specs.Around.{Around};
 ghost use Rattle.cylinder.specs.InLimits.{InLimits};
@@ -9,7 +11,7 @@ use cylinder::{Cylinder, Stress};
 use interval::Interval;
 
 // Bounds of the terms of a comparison: of the ideal stress c, and e where it has a part with √(w/(200 r)), and of the yield stress d.
-#[derive(Drop)]
+#[derive(Clone, Copy)]
 pub struct Terms {
     pub c: Interval,
     pub d: Interval,

@@ -1,6 +1,8 @@
 // A term of the sum, from below: how many millionths the formula of DIN 18800-4 reaches at a slenderness k/q. The
 // resistance is the yield stress times the reduction factor κ, times the tolerance for the imperfection, over the
 // partial factor. Numerators and denominators are kept apart, as products of whole numbers, and compared exactly.
+#![tactic(auto)]
+
 ghost use Rattle.std.specs.Prelude.{◌≡◌, ◌-◌, ◌*◌, ◌≤◌, ◌<◌, length};
 ghost use Rattle.wide.specs.Value.{base};
 ghost use Rattle.factors.specs.Product.{prod};
@@ -13,7 +15,7 @@ use cylinder::Stress;
 use millionths::Power;
 
 // The branch of the reduction factor κ.
-#[derive(Drop)]
+#[derive(Clone, Copy)]
 pub enum Part {
     Plateau,
     Line,
@@ -22,7 +24,7 @@ pub enum Part {
 }
 
 // The branches in which a slenderness lies.
-#[derive(Drop)]
+#[derive(Clone, Copy)]
 pub struct Branches {
     // of the reduction factor
     pub part: Part,
@@ -35,7 +37,7 @@ pub struct Branches {
 }
 
 // Two factors of a product.
-#[derive(Drop)]
+#[derive(Clone, Copy)]
 struct Two {
     a: u64,
     b: u64,

@@ -1,4 +1,6 @@
 // Writes the total line of a listing.
+#![tactic(auto)]
+
 ghost use Rattle.std.specs.Prelude.{◌≡◌, ◌+◌, ◌≤◌, length};
 ghost use Rattle.text.specs.Slices.{put};
 ghost use Rattle.listing.specs.Listing.{total, ended};

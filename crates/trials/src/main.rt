@@ -1,4 +1,6 @@
 // A trial: the sheets that the arguments name, one after another. Each gets a line with its name, then its listing.
+#![tactic(auto)]
+
 use libc::STDOUT_FILENO;
 
 // Writes the listing of the sheet that is open as `fd`.

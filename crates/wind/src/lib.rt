@@ -1,5 +1,7 @@
 // The ring stress of wind on the wall, raised to a whole number of kN/m². A fourth root in whole eights leaves at most two
 // numbers, and an exact comparison decides between them.
+#![tactic(auto)]
+
 ghost use Rattle.std.specs.Prelude.{◌≡◌, ◌+◌, ◌*◌, ◌≤◌, ◌<◌};
 ghost use Rattle.roots.specs.Largest.{largest};
 ghost use Rattle.cylinder.specs.InLimits.{InLimits};

@@ -1,4 +1,6 @@
 // Writes the line of load cases (SCOPE 21 and 26.8).
+#![tactic(auto)]
+
 ghost use Rattle.std.specs.Prelude.{◌≡◌, List, ℕ, ◌+◌, ◌≤◌, length, take};
 ghost use Rattle.text.specs.Slices.{put};
 ghost use Rattle.cases.specs.Answering.{load_cases};
@@ -12,7 +14,7 @@ use record::{Group, Inner, Ring, Wall};
 use text::{put_bytes, put_number, put_spaced};
 
 // What a writer answers: so many bytes put, or the number of the check that refused.
-#[derive(Drop)]
+#[derive(Clone, Copy)]
 pub enum Written {
     Put(usize),
     Refused(u64),

@@ -1,0 +1,77 @@
+-- `interval::levelled` meets its contract: a step up halves each bound at least once. Assumes nothing.
+use mathlib.Core.Path.{◌≡◌}
+use Prim.Native.Nat.{ℕ, ◌+◌, ◌-◌, ◌*◌, ◌/◌, ◌^◌, ◌≤◌, ◌<◌}
+use native.Mathlib.Nat.{add_comm, lt_of_le_of_lt}
+use native.Mathlib.Omega.{arith}
+use borrow.Author.Rules.{rules}
+use lib.Dec.{lit<}
+use lib.Pow.{pow-add, pow_pos, shr_le, shr-shr}
+use Rattle.interval.specs.declared.Interval.{Interval}
+use Rattle.interval.specs.Around.{power, Around, Enclosed}
+use Rattle.interval.proofs.Bounds.{level_low, level_high}
+use Rattle.interval.proofs.levelled.Goals as goal
+
+-- a larger power is the step times the smaller one
+step : (k q : ℕ) → power (k + q) ≡ 2 ^ k * power q
+unfolding power
+step k q = pow-add 2 k q
+
+-- bounds at a larger power
+raised : (a : Interval) (k up l g x : ℕ) → up ≡ k + a.up → l ≡ a.low / 2 ^ k → g ≡ a.gap / 2 ^ k → 0 < a.low → Around a x → Enclosed l (g + 2) up x
+raised a k up l g x e el eg known h = rw (e, el, eg, step) (level_low _ x _ _ _ (pow_pos k) (h known).0, level_high _ _ x _ _ _ (pow_pos k) (h known).1)
+
+-- at least one digit is left out
+half : (x k n r : ℕ) → r ≡ x / 2 ^ (k + 1) → x < 2 * n → r < n
+half x k n r e h = rw (e, ← shr-shr) (omega (arith, shr_le x k))
+
+gap_half : (x k r : ℕ) → r ≡ x / 2 ^ (k + 1) → x ≤ 4294967296 → r + 2 ≤ 2147483650
+gap_half x k r e h = let l = half x k 2147483649 r e (omega arith) in omega arith
+
+-- both steps lead to one power
+meet : (p q s t : ℕ) → s ≡ q - p → t ≡ p - q → p + (s + 1) ≡ t + 1 + q
+meet p q s t d e = omega arith
+
+pub overflow_add-s : goal.overflow_add-s
+overflow_add-s c = 
+    let f = c.fit.ensures c.if-fit.true in
+    omega (arith, c.above-s.ensures, f.3.up_most)
+
+pub overflow_add-t : goal.overflow_add-t
+overflow_add-t c = 
+    let f = c.fit.ensures c.if-fit.true in
+    omega (arith, c.above-t.ensures, f.2.up_most)
+
+pub overflow_add-result : goal.overflow_add-result
+overflow_add-result c = 
+    let f = c.fit.ensures c.if-fit.true in
+    record { fits = lt_of_le_of_lt (gap_half _ _ _ c.shifted-then-fit.ensures f.2.gap_most) (lit< tt) }
+
+pub overflow_add-result-then-fit : goal.overflow_add-result-then-fit
+overflow_add-result-then-fit c = 
+    let f = c.fit.ensures c.if-fit.true in
+    record { fits = lt_of_le_of_lt (gap_half _ _ _ c.shifted-then-fit-3.ensures f.3.gap_most) (lit< tt) }
+
+pub overflow_add-result-then-fit-2 : goal.overflow_add-result-then-fit-2
+overflow_add-result-then-fit-2 c = 
+    let f = c.fit.ensures c.if-fit.true in
+    omega (arith, c.above-s.ensures, f.2.up_most, f.3.up_most)
+
+pub returns-then-fit : goal.returns-then-fit
+returns-then-fit c = 
+    let s = c.above-s in
+    let t = c.above-t in
+    let f = c.fit.ensures c.if-fit.true in
+    let a = c.args.a in
+    let b = c.args.b in
+    let al = c.shifted.ensures in
+    let ag = c.shifted-then-fit.ensures in
+    let bl = c.shifted-then-fit-2.ensures in
+    let bg = c.shifted-then-fit-3.ensures in
+    record {
+      a_most = half _ _ 9223372036854775808 _ al (omega arith);
+      g_most = gap_half _ _ _ ag f.2.gap_most;
+      b_most = half _ _ 9223372036854775808 _ bl (omega arith);
+      h_most = gap_half _ _ _ bg f.3.gap_most;
+      first = λ _ x h. raised a (s.result + 1) _ _ _ x (add_comm a.up _) al ag f.0 h;
+      second = λ _ y h. raised b (t.result + 1) _ _ _ y (meet a.up b.up _ _ s.ensures t.ensures) bl bg f.1 h;
+    }

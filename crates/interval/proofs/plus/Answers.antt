@@ -1,0 +1,11 @@
+-- `interval::plus` meets its contract: at one power, bounds add. Assumes nothing.
+use borrow.Author.Rules.{rules}
+use Rattle.interval.proofs.Bounds.{plus_low, plus_high}
+use Rattle.interval.proofs.plus.Goals as goal
+
+pub returns : goal.returns
+returns c x y aroundA aroundB known = 
+    let l = c.levelled-p.ensures in
+    let p = l.first known x aroundA in
+    let q = l.second known y aroundB in
+    (plus_low _ _ x y _ _ p.0 q.0, plus_high _ _ _ _ x y _ _ p.1 q.1)
