@@ -6,23 +6,7 @@ use lib.Dec.{leb}
 use borrow.Author.Rules.{rules}
 use Rattle.algebra.proofs.Ring.{ring, quoted}
 use Rattle.factors.specs.Product.{prod}
-use Rattle.product_samples.proofs.twenty_five.Statement.{statement}
-use Rattle.product_samples.proofs.twenty_five.Tie as tie
-
-mul-d : tie.Need-overflow-mul-d
-mul-d c = search rules
-
-add-d : tie.Need-overflow-add-d
-add-d c = search rules
-
-slice-aggregate-at-most : tie.Need-slice-aggregate-at-most
-slice-aggregate-at-most c = search rules
-
-slice-aggregate-at-most-2 : tie.Need-slice-aggregate-at-most-2
-slice-aggregate-at-most-2 c = search rules
-
-at-most-requires : tie.Need-at-most-requires
-at-most-requires c κs = search rules
+use Rattle.product_samples.proofs.twenty_five.Goals as goal
 
 left : (c e w p d : ℕ) → prod (23 ∷ c ∷ e ∷ w ∷ p ∷ p ∷ 23 ∷ c ∷ e ∷ w ∷ p ∷ p ∷ 23 ∷ c ∷ e ∷ w ∷ p ∷ p ∷ 23 ∷ c ∷ e ∷ w ∷ p ∷ p ∷ d ∷ []) ≡ (23 * c * e * w * p ^ 2) ^ 4 * d
 left c e w p d = ring (c ∷ e ∷ w ∷ p ∷ d ∷ []) (search quoted depth 60 fits 100000) refl
@@ -30,16 +14,5 @@ left c e w p d = ring (c ∷ e ∷ w ∷ p ∷ d ∷ []) (search quoted depth 60
 right : (l y q r : ℕ) → prod (20000 ∷ l ∷ y ∷ q ∷ q ∷ 20000 ∷ l ∷ y ∷ q ∷ q ∷ 20000 ∷ l ∷ y ∷ q ∷ q ∷ 20000 ∷ l ∷ y ∷ q ∷ q ∷ 200 ∷ r ∷ []) ≡ (20000 * l * y * q ^ 2) ^ 4 * (200 * r)
 right l y q r = ring (l ∷ y ∷ q ∷ r ∷ []) (search quoted depth 60 fits 100000) refl
 
-returns : tie.Need-returns
-returns c = let a = c.before.before.before.args in c.at_most_lem.ensures ∙ ap₂ leb (left a.c a.e a.w a.p (a.w + 3 * a.e)) (right a.l a.y a.q a.r)
-
-pub twenty-five-spec : {M : Type 1} → statement M
-twenty-five-spec =
-    tie.close
-    (tie.spec
-    mul-d
-    add-d
-    slice-aggregate-at-most
-    slice-aggregate-at-most-2
-    at-most-requires
-    returns)
+pub returns : goal.returns
+returns c = let a = c.args in c.at_most.ensures ∙ ap₂ leb (left a.c a.e a.w a.p (a.w + 3 * a.e)) (right a.l a.y a.q a.r)
