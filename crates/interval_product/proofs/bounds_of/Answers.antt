@@ -56,7 +56,7 @@ loop-i-preserved c =
       omega arith,
       (
         v.0 * c.loop-i.w,
-        rw w.n-is (w.joined.ensures v.0 v.1 v.2),
+        rw w.n-is (w.joined-n.ensures v.0 v.1 v.2),
         λ h. absurd (true≢false (sym h ∙ w.fresh-is)),
         rw (w.w-is, add-one) (moved v.0 c.loop-i.w (get_or f c.loop-i.i 0) _ _ e),
       ),
