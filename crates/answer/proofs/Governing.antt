@@ -6,6 +6,7 @@ use mathlib.Core.List.{List, [], ◌∷◌}
 use Prim.Native.Nat.{ℕ, suc, ◌≤◌, ◌<◌}
 use native.Mathlib.Omega.{arith}
 use borrow.Author.Tests.{ltb-true, ltb-false}
+use Rattle.algebra.specs.Choice.{pick}
 use Rattle.answer.specs.declared.Verdict.{Verdict}
 use Rattle.answer.specs.declared.Verdict.TheVariants.{Holds, Fails, Open}
 use Rattle.answer.specs.declared.Judgement.{Judgement}
@@ -68,7 +69,8 @@ governing_before j n (k ∷ ks) lt (e, es) =
     go with-j with-k true t = let worse = ltb-true (severity_of j.verdict) (severity_of k.verdict) t in rw t (λ h. omega (arith, governing_first k ks), with-k)
     go with-j with-k false t =
         let no-worse = ltb-false (severity_of j.verdict) (severity_of k.verdict) t in
-        rw t (with-j.0, (λ h. omega (arith, with-j.0 (omega arith)), with-j.1))
+        let same : worse_of j k ≡ j = ap (λ (b : Bool). pick b k j) t in
+        rw same (with-j.0, (λ h. omega (arith, with-j.0 (omega arith)), with-j.1))
 
 -- fails governs wherever there is one, and holds only where there is nothing else
 pub severity_fails : (v : Verdict) → severity_of Fails ≤ severity_of v → v ≡ Fails
