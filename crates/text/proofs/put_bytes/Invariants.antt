@@ -1,10 +1,7 @@
-use borrow.Author.Rules.{rules}
-use native.Mathlib.Omega.{arith}
-use mathlib.Core.Path.{◌≡◌, refl, sym, ◌∙◌}
+use mathlib.Core.Path.{◌≡◌}
 use Prim.Native.Nat.{◌+◌, ◌-◌, ◌≤◌}
-use lib.ListN.{length, drop, length-set}
+use lib.ListN.{length, drop}
 use Rattle.text.specs.Slices.{put}
-use Rattle.text.proofs.Laws.{put_done, put_next}
 use Rattle.text.proofs.put_bytes.Given as goal
 
 abbrev pub invariant-loop-j : goal.invariant-loop-j
