@@ -37,8 +37,8 @@ pub loop-i-preserved : goal.loop-i-preserved
 loop-i-preserved c = 
     let f = count_fits (length c.args.numbers.now) in (
       omega arith,
-      length-set c.loop-i.groups c.loop-i.i c.Group-of.result ∙ c.loop-i.invariant.1,
-      listed_next c.args.numbers.now c.loop-i.groups c.loop-i.i c.Group-of.result (omega (arith, c.loop-i.invariant.1, c.count_of-count.ensures, f.0)) c.loop-i.invariant.2 c.Group-of.ensures,
+      length-set c.loop-i.groups c.loop-i.i c.group_of.result ∙ c.loop-i.invariant.1,
+      listed_next c.args.numbers.now c.loop-i.groups c.loop-i.i c.group_of.result (omega (arith, c.loop-i.invariant.1, c.count_of-count.ensures, f.0)) c.loop-i.invariant.2 c.group_of.ensures,
     )
 
 pub returns : goal.returns
