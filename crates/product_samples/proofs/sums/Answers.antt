@@ -8,10 +8,6 @@ use Rattle.algebra.proofs.Ring.{ring, quoted}
 use Rattle.factors.specs.Product.{prod}
 use Rattle.product_samples.proofs.sums.Goals as goal
 
--- GONE slice-aggregate-sums-at-most-4
--- slice-aggregate-sums-at-most-4 : tie.Need-slice-aggregate-sums-at-most-4
--- slice-aggregate-sums-at-most-4 c = search rules
-
 left : (c e w p l r : ℕ) → prod (e ∷ 44 ∷ w ∷ w ∷ l ∷ l ∷ l ∷ l ∷ p ∷ p ∷ []) + prod (e ∷ c ∷ r ∷ r ∷ r ∷ r ∷ r ∷ r ∷ p ∷ p ∷ []) ≡ e * (44 * w ^ 2 * l ^ 4 + c * r ^ 6) * p ^ 2
 left c e w p l r = ring (c ∷ e ∷ w ∷ p ∷ l ∷ r ∷ []) (search quoted depth 60 fits 100000) refl
 
