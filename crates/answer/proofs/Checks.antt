@@ -23,6 +23,7 @@ first_or_lem {A} f a (k ∷ ks) = go k.passed refl (first_or_lem f a ks)
 
 -- where a check is broken, and where none is
 pub first_broken : {A : Type 0} (f : ℕ → A) (a : A) (ks : List Check) (n : ℕ) → FirstBroken ks n → first_or f a ks ≡ f n
+first_broken {A = A} f a [] n x' = elim x' [ ]
 first_broken f a (k ∷ ks) n (inl (e, is)) = rw (e, is) refl
 first_broken f a (k ∷ ks) n (inr (e, g)) = rw e (first_broken f a ks n g)
 
@@ -32,6 +33,7 @@ all_passed f a (k ∷ ks) (e, all) = rw e (all_passed f a ks all)
 
 -- one check at most is the first broken
 pub first_once : (ks : List Check) (m n : ℕ) → FirstBroken ks m → FirstBroken ks n → m ≡ n
+first_once [] m n x'' _ = elim x'' [ ]
 first_once (k ∷ ks) m n (inl (f, e)) (inl (g, d)) = sym e ∙ d
 first_once (k ∷ ks) m n (inl (f, e)) (inr (t, r)) = absurd (clash t f)
 first_once (k ∷ ks) m n (inr (t, r)) (inl (f, e)) = absurd (clash t f)
@@ -39,6 +41,7 @@ first_once (k ∷ ks) m n (inr (t, r)) (inr (u, q)) = first_once ks m n r q
 
 -- and none is where all are passed
 pub broken_passed : (ks : List Check) (n : ℕ) → FirstBroken ks n → AllPassed ks → ⊥
+broken_passed [] n x'' _ = elim x'' [ ]
 broken_passed (k ∷ ks) n (inl (f, e)) (t, all) = clash t f
 broken_passed (k ∷ ks) n (inr (t, r)) (u, all) = broken_passed ks n r all
 
@@ -51,6 +54,7 @@ Among n [] = ⊥
 Among n (m ∷ ms) = (m ≡ n) ⊎ Among n ms
 
 pub first_among : (ks : List Check) (n : ℕ) → FirstBroken ks n → Among n (numbers ks)
+first_among [] n x' = elim x' [ ]
 first_among (k ∷ ks) n (inl (f, e)) = inl e
 first_among (k ∷ ks) n (inr (t, r)) = inr (first_among ks n r)
 
@@ -60,6 +64,7 @@ Every P [] = Unit {0}
 Every P (m ∷ ms) = P m × Every P ms
 
 pub among_every : (P : ℕ → Type 0) (ms : List ℕ) (n : ℕ) → Among n ms → Every P ms → P n
+among_every P [] n x'' _ = elim x'' [ ]
 among_every P (m ∷ ms) n (inl e) (p, ps) = rw (← e) p
 among_every P (m ∷ ms) n (inr a) (p, ps) = among_every P ms n a ps
 

@@ -1,11 +1,12 @@
 -- What governs: one of the judgements, with the worst verdict of all, and the first that has it. Assumes nothing.
-use mathlib.Core.Path.{◌≡◌, refl, ap, sym, ◌∙◌}
+use mathlib.Core.Path.{◌≡◌, refl, ap, sym, subst, ◌∙◌}
 use mathlib.Core.Bool.{Bool, true, false}
 use mathlib.Core.Logic.{◌⊎◌, inl, inr}
 use mathlib.Core.List.{List, [], ◌∷◌}
 use Prim.Native.Nat.{ℕ, suc, ◌≤◌, ◌<◌}
 use native.Mathlib.Omega.{arith}
 use borrow.Author.Tests.{ltb-true, ltb-false}
+use Rattle.algebra.specs.Choice.{pick}
 use Rattle.answer.specs.declared.Verdict.{Verdict}
 use Rattle.answer.specs.declared.Verdict.TheVariants.{Holds, Fails, Open}
 use Rattle.answer.specs.declared.Judgement.{Judgement}
@@ -65,10 +66,16 @@ governing_before j n (k ∷ ks) lt (e, es) =
   where
     go : All (LessBefore (governing j ks)) (j ∷ ks) → All (LessBefore (governing k ks)) (k ∷ ks) → (t : Bool) → is_worse j k ≡ t →
         All (LessBefore (governing (worse_of j k) ks)) (j ∷ k ∷ ks)
-    go with-j with-k true t = let worse = ltb-true (severity_of j.verdict) (severity_of k.verdict) t in rw t (λ h. omega (arith, governing_first k ks), with-k)
+    go with-j with-k true t =
+        let worse = ltb-true (severity_of j.verdict) (severity_of k.verdict) t in
+        let same : worse_of j k ≡ k = ap (λ (b : Bool). pick b k j) t in
+        subst (λ (g : Judgement). All (LessBefore (governing g ks)) (j ∷ k ∷ ks)) (sym same)
+        (λ h. omega (arith, governing_first k ks), with-k)
     go with-j with-k false t =
         let no-worse = ltb-false (severity_of j.verdict) (severity_of k.verdict) t in
-        rw t (with-j.0, (λ h. omega (arith, with-j.0 (omega arith)), with-j.1))
+        let same : worse_of j k ≡ j = ap (λ (b : Bool). pick b k j) t in
+        subst (λ (g : Judgement). All (LessBefore (governing g ks)) (j ∷ k ∷ ks)) (sym same)
+        (with-j.0, (λ h. omega (arith, with-j.0 (omega arith)), with-j.1))
 
 -- fails governs wherever there is one, and holds only where there is nothing else
 pub severity_fails : (v : Verdict) → severity_of Fails ≤ severity_of v → v ≡ Fails

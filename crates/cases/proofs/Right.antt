@@ -39,6 +39,7 @@ use Rattle.cases.proofs.Checks.{stands_some, stands_refused}
 
 -- a test that every group passes is passed by each
 pub every_at : (test : Group → Bool) (gs : List Group) (n : ℕ) (g : Group) → At gs n g → every test gs ≡ true → test g ≡ true
+every_at test [] n g e all = elim e [ ]
 every_at test (h ∷ hs) zero g e all = ap test e ∙ (and_true (test h) (every test hs) all).0
 every_at test (h ∷ hs) (suc n) g at all = every_at test hs n g at (and_true (test h) (every test hs) all).1
 
@@ -91,6 +92,7 @@ module _ (o : Order) where
   all_both P Q (j ∷ js) (p, ps) (q, qs) = ((p, q), all_both P Q js ps qs)
 
   pub each_at : (c : LoadCases) (n : ℕ) (gs : List Group) (js : List Judgement) → EachJudged o c n gs js → All (JudgedAt c n gs) js
+  each_at c n [] (j ∷ js) each = elim each [ ]
   each_at c n [] [] each = tt
   each_at c n (g ∷ gs) [] each = tt
   each_at c n (g ∷ gs) (j ∷ js) (((b, k), v), each) = (
@@ -101,6 +103,7 @@ module _ (o : Order) where
   -- what is known of all judgements is known of that of a load case
   pub at_each : (c : LoadCases) (n : ℕ) (gs : List Group) (js : List Judgement) (P : Judgement → Type 0) → EachJudged o c n gs js → All P js → (m : ℕ) (g : Group) → At gs m g →
       (k : Judgement) × (P k × (Bounds o (alone c g) k × (k.verdict ≡ verdict_of k.low k.high) × (k.case ≡ n + m)))
+  at_each c n [] js P each all m g at = elim at [ ]
   at_each c n (h ∷ hs) [] P each all m g at = absurd each
   at_each c n (h ∷ hs) (j ∷ js) P (((b, k), v), each) (p, all) zero g e = (j, (p, (subst (λ (x : Group). Bounds o (alone c x) j) (sym e) b, v, omega (arith, k))))
   at_each c n (h ∷ hs) (j ∷ js) P (_, each) (p, all) (suc m) g at =
@@ -167,6 +170,8 @@ module _ (o : Order) where
   -- ---- the line is as bad as its worst load case, and its case is the first that is so bad
 
   each_numbered : (c : LoadCases) (n : ℕ) (gs : List Group) (js : List Judgement) → EachJudged o c n gs js → Numbered n js
+  each_numbered c n [] (j ∷ js) each = elim each [ ]
+  each_numbered c n (g ∷ gs) [] each = elim each [ ]
   each_numbered c n [] [] each = tt
   each_numbered c n (g ∷ gs) (j ∷ js) (((_, is), _), each) = (is, each_numbered c (suc n) gs js each)
 
@@ -180,7 +185,7 @@ module _ (o : Order) where
   module _ (c : LoadCases) (j : Judgement) (r : Governs o c j) where
     -- no judgement of a load case is worse
     pub cases_worst : All (NoWorse j) (r.first ∷ r.others)
-    cases_worst = rw r.is (governing_first r.first r.others, governing_worst r.first r.others)
+    cases_worst = subst (λ (k : Judgement). All (NoWorse k) (r.first ∷ r.others)) (sym r.is) (governing_first r.first r.others, governing_worst r.first r.others)
 
     -- so the line fails wherever one fails
     pub cases_fails : All (λ k. k.verdict ≡ Fails → j.verdict ≡ Fails) (r.first ∷ r.others)
@@ -188,7 +193,7 @@ module _ (o : Order) where
 
     -- and each before the line's case is less severe
     pub cases_first : All (LessBefore j) (r.first ∷ r.others)
-    cases_first = rw r.is (governing_numbered r.first r.others (each_numbered c 1 c.groups (r.first ∷ r.others) r.each))
+    cases_first = subst (λ (k : Judgement). All (LessBefore k) (r.first ∷ r.others)) (sym r.is) (governing_numbered r.first r.others (each_numbered c 1 c.groups (r.first ∷ r.others) r.each))
 
   -- the same at the place of a load case
   pub cases_each : (c : LoadCases) (j : Judgement) → RightCases o c (Judged j) → (m : ℕ) (g : Group) → At c.groups m g →
@@ -210,6 +215,7 @@ module _ (o : Order) where
     -- what is known of all judgements is known of each
     own_at : (P : Judgement → Type 0) (n : ℕ) (gs : List Group) → All P (judgements o c n gs) → (m : ℕ) (g : Group) → At gs m g → P (of_case (n + m) (judgement_of_record o (alone c g)))
     unfolding judgements
+    own_at P n [] _ m g e = elim e [ ]
     own_at P n (h ∷ hs) (p, all) zero g e = rw e (subst (λ (i : ℕ). P (of_case i (judgement_of_record o (alone c h)))) (omega arith) p)
     own_at P n (h ∷ hs) (p, all) (suc m) g at = subst (λ (i : ℕ). P (of_case i (judgement_of_record o (alone c g)))) (omega arith) (own_at P (suc n) hs all m g at)
 
@@ -334,6 +340,7 @@ module _ (o : Order) where
   -- ---- what a right answer can be
 
   at_below : (gs : List Group) (m : ℕ) (g : Group) → At gs m g → m < length gs
+  at_below [] m g at = elim at [ ]
   at_below (h ∷ hs) zero g at = omega arith
   at_below (h ∷ hs) (suc m) g at = let lt = at_below hs m g at in omega (arith, lt)
 

@@ -21,6 +21,7 @@ use Rattle.cases.specs.Answering.{no_group, has_ring, wanted_too, WantedFor, Wan
 
 -- a group of a list with one more is one of the list, or that one
 pub at_next : (gs : List Group) (h : Group) (m : ℕ) (g : Group) → At (gs ++ (h ∷ [])) m g → At gs m g ⊎ (g ≡ h)
+at_next [] h (suc m) g e = elim e [ ]
 at_next [] h zero g e = inr e
 at_next (i ∷ is) h zero g e = inl e
 at_next (i ∷ is) h (suc m) g at = at_next is h m g at

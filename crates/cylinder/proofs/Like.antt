@@ -6,7 +6,7 @@ use native.Mathlib.Nat.{mul-pos, mul-sub, mul-le-mul_left, le_of_mul-le-mul_left
 use native.Mathlib.Omega.{arith}
 use lib.Dec.{leb, lit<}
 use borrow.Author.Tests.{leb-true, leb-false, le-leb, lt-leb}
-use Rattle.cylinder.specs.Fraction.{Fraction, ◌//◌, ◌⊕◌, ◌⊖◌, ◌⊗◌, ◌⊘◌, ◌↑◌, ◌atMost◌}
+use Rattle.cylinder.specs.Fraction.{Fraction, ◌//◌, ◌⊕◌, ◌⊖◌, ◌⊗◌, ◌⊘◌, ◌↑◌, ◌at_most◌}
 use Rattle.algebra.proofs.Powers.{mul_pow}
 
 -- where m f's parts are k times x and y. Either may be 0.

@@ -1,7 +1,7 @@
 -- SCOPE 3: DIN 18800-4, section 4.2. Stresses in N/mm².
 use Rattle.std.specs.Prelude.{Bool, eqb}
 use Rattle.cylinder.specs.declared.Cylinder.{Cylinder}
-use Rattle.cylinder.specs.Fraction.{Fraction, ◌//◌, whole, tenths, hundredths, thousandths, ◌⊕◌, ◌⊗◌, ◌⊘◌, ◌↑◌, ◌atMost◌}
+use Rattle.cylinder.specs.Fraction.{Fraction, ◌//◌, whole, tenths, hundredths, thousandths, ◌⊕◌, ◌⊗◌, ◌⊘◌, ◌↑◌, ◌at_most◌}
 use Rattle.cylinder.specs.Number.{Number, exactly, times_root, plus_root, minus_root, scaled, larger}
 use Rattle.algebra.specs.Choice.{pick}
 

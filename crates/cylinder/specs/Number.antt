@@ -1,6 +1,6 @@
 -- SCOPE 5.3: a number that need not be a fraction is known by the fractions that it reaches (is at least) and those that it is within (is at most).
 use Rattle.std.specs.Prelude.{Bool, ◌&&◌, ◌||◌}
-use Rattle.cylinder.specs.Fraction.{Fraction, ◌⊖◌, ◌⊗◌, ◌⊘◌, ◌↑◌, ◌atMost◌}
+use Rattle.cylinder.specs.Fraction.{Fraction, ◌⊖◌, ◌⊗◌, ◌⊘◌, ◌↑◌, ◌at_most◌}
 
 pub record Number : Type 0 where
   pub reaches : Fraction → Bool

@@ -2,7 +2,7 @@
 -- too, follow from a sum of at most 1 (crate standard_laws). Stresses are fractions of kN/m².
 use Rattle.std.specs.Prelude.{ℕ, ◌<◌, Bool, true, ◌≡◌}
 use Rattle.cylinder.specs.declared.Cylinder.{Cylinder}
-use Rattle.cylinder.specs.Fraction.{Fraction, ◌//◌, whole, ◌⊗◌, ◌⊘◌, ◌↑◌, ◌atMost◌}
+use Rattle.cylinder.specs.Fraction.{Fraction, ◌//◌, whole, ◌⊗◌, ◌⊘◌, ◌↑◌, ◌at_most◌}
 use Rattle.cylinder.specs.Number.{Number, exactly, power_1·25}
 use Rattle.cylinder.specs.Resistance.{Branch1, Branch2, branch1, branch2, axial_s, ring_s, shear_s, axial_r, ring_r, shear_rSquare}
 use Rattle.cylinder.specs.Exact.{SumOver}

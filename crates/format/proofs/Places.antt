@@ -17,9 +17,7 @@ use Rattle.word.specs.declared.Numeral.TheVariants.{Value, Missing}
 use Rattle.format.specs.Readers.{Found, nothing, found, Reader, on, starts_with, number, fixed, empty, sequence, changed, one_of, several, one_to, before, closed, optional, whole}
 use Rattle.format.specs.Places.{Part, part, refused, Finds, Fails, Answers, reads, refuses, fixed_part, number_part, stored_part}
 use Rattle.format.specs.declared.FixedAt.{FixedAt}
-use Rattle.format.specs.declared.FixedAt.TheVariants as FixedAt
 use Rattle.format.specs.declared.NumberAt.{NumberAt}
-use Rattle.format.specs.declared.NumberAt.TheVariants as NumberAt
 use Rattle.format.proofs.Starts.{starts_fits}
 
 -- ---- what an answer says

@@ -3,9 +3,7 @@
 use Rattle.std.specs.Prelude.{ℕ, zero, suc, ◌≤◌, ◌≡◌, List, length, take, drop}
 use Rattle.format.specs.Readers.{Reader, nothing, found}
 use Rattle.format.specs.declared.FixedAt.{FixedAt}
-use Rattle.format.specs.declared.FixedAt.TheVariants as FixedAt
 use Rattle.format.specs.declared.NumberAt.{NumberAt}
-use Rattle.format.specs.declared.NumberAt.TheVariants as NumberAt
 
 -- a value and the place after it, or the number of the line's refusal
 pub data Part (A : Type 0) : Type 0 where

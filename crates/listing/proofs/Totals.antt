@@ -1,13 +1,12 @@
 -- The counts of answers, and the room that their listing takes.
 -- Assumes nothing.
-use mathlib.Core.Path.{◌≡◌, refl, sym, ap, ◌∙◌}
+use mathlib.Core.Path.{◌≡◌, refl}
 use Prim.Native.Nat.{ℕ, ◌+◌, ◌*◌, ◌≤◌, ◌<◌, zero-le}
 use native.Mathlib.Omega.{arith}
 use mathlib.Core.Bool.{Bool, true, false}
-use mathlib.Core.List.{List, [], ◌∷◌, ◌++◌, map}
+use mathlib.Core.List.{List, [], ◌∷◌, map}
 use lib.ListN.{length, length-append, length-map}
 use lib.Dec.{eqb, lit≤}
-use Rattle.text.specs.Bytes.{decimal}
 use Rattle.algebra.specs.Choice.{pick}
 use Rattle.text.proofs.Laws.{decimal_length}
 use Rattle.answer.specs.declared.Answer.{Answer}

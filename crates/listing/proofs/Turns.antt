@@ -1,11 +1,10 @@
 -- A loop that writes the line for one answer after the other and counts them: where it stands, a turn, and its end.
 -- Assumes nothing.
 use mathlib.Core.Path.{◌≡◌, refl, sym, ap, ◌∙◌, subst}
-use Prim.Native.Nat.{ℕ, ◌+◌, ◌≤◌, ◌<◌}
+use Prim.Native.Nat.{ℕ, ◌+◌, ◌≤◌}
 use native.Mathlib.Nat.{zero-add, add-zero}
 use native.Mathlib.Omega.{arith}
-use mathlib.Core.Bool.{Bool}
-use mathlib.Core.List.{List, [], ◌∷◌, ◌++◌}
+use mathlib.Core.List.{List, [], ◌∷◌}
 use lib.ListN.{length, length-append}
 use Rattle.text.specs.Slices.{put}
 use Rattle.algebra.specs.Choice.{pick}
@@ -80,9 +79,9 @@ module _ (whole : List Answer) (out₀ out : List ℕ) (at : ℕ) (c : Counts) w
     unfolding joined entries
     turn h r out' w =
         record {
-          next = omega (arith, h.next, entries_split, w.0);
-          bytes = rw (w.1, w.0) (sym (put_append out at (ended (entry (c.lines + 1) a)) (joined (entries (c.lines + 1 + 1) ys))) ∙ h.bytes);
-          same = ap length w.1 ∙ put_length out at _ ∙ h.same;
+          next = omega (arith, h.next, entries_split, w.value);
+          bytes = rw (w.out_after, w.value) (sym (put_append out at (ended (entry (c.lines + 1) a)) (joined (entries (c.lines + 1 + 1) ys))) ∙ h.bytes);
+          same = ap length w.out_after ∙ put_length out at _ ∙ h.same;
           counted = added_cons ∙ h.counted;
         }
 
@@ -127,11 +126,11 @@ module _ (whole : List Answer) (out₀ out : List ℕ) (at : ℕ) (c : Counts) w
 
     here_wrote : Wrote out₀ 0 (joined (entries 1 whole)) at out
     unfolding joined entries
-    here_wrote = (omega (arith, done.next), sym (put_nil out at) ∙ done.bytes)
+    here_wrote = record { value = omega (arith, done.next); out_after = sym (put_nil out at) ∙ done.bytes }
 
     pub here_total : length (listing_of whole) ≤ length out₀ → at + length (ended (total c)) ≤ length out
     here_total room =
-        omega (arith, listing_length whole, here_wrote.0, h.same, ap (λ (d : Counts). length (ended (total d))) here_counts)
+        omega (arith, listing_length whole, here_wrote.value, h.same, ap (λ (d : Counts). length (ended (total d))) here_counts)
 
     -- the total line is written behind the others: that is the listing
     pub here_listing : (r : ℕ) (out' : List ℕ) → Wrote out at (ended (total c)) r out' → Wrote out₀ 0 (listing_of whole) r out'

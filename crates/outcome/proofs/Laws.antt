@@ -50,7 +50,7 @@ sheet_room sheet h = listing_room ruled (λ l n e. omega (arith, line_refusal Pr
 pub listed : (sheet out out' : List ℕ) (c : Counts) (r : ℕ) → c ≡ counts (answers sheet) → Wrote out 0 (listing sheet) r out'
     → ◌≡◌ {A = Outcome} (record { refusal = 0; counts = c; length = r }) (listed_by ruled sheet)
 listed sheet out out' c r e w =
-    let len : r ≡ length (listing sheet) = w.0 ∙ zero-add (length (listing sheet)) in
+    let len : r ≡ length (listing sheet) = w.value ∙ zero-add (length (listing sheet)) in
     λ i. record { refusal = 0; counts = e i; length = len i }
 
 -- ---- the outcome, case by case

@@ -1,7 +1,7 @@
 -- SCOPE 10.14, 10.15 and 24: choosing a stock plate: the checks in their order, the plates that are passed over, the exact sum of a plate, what is
 -- laid down of the choice, and its number.
 use Rattle.std.specs.Prelude.{ℕ, ◌+◌, ◌*◌, ◌<◌, ◌≡◌, Bool, true, ◌&&◌, List, [], ◌∷◌, leb, ltb, length, get_or}
-use Rattle.cylinder.specs.Fraction.{Fraction, ◌//◌, whole, ◌atMost◌}
+use Rattle.cylinder.specs.Fraction.{Fraction, ◌//◌, whole, ◌at_most◌}
 use Rattle.cylinder.specs.Sum.{Over}
 use Rattle.answer.specs.declared.Verdict.TheVariants.{Holds}
 use Rattle.answer.specs.declared.Judgement.{Judgement}

@@ -3,7 +3,7 @@ use mathlib.Core.Path.{◌≡◌, refl, ap₂}
 use mathlib.Core.Bool.{Bool, true, false}
 use Prim.Native.Nat.{ℕ, ◌*◌, ◌^◌}
 use native.Mathlib.Omega.{arith}
-use Rattle.cylinder.specs.Fraction.{Fraction, ◌//◌, whole, tenths, hundredths, thousandths, ◌⊘◌, ◌atMost◌}
+use Rattle.cylinder.specs.Fraction.{Fraction, ◌//◌, whole, tenths, hundredths, thousandths, ◌⊘◌, ◌at_most◌}
 use Rattle.cylinder.specs.Number.{exactly}
 use Rattle.cylinder.specs.declared.Cylinder.{Cylinder}
 use Rattle.cylinder.specs.Resistance.{κ2, tolerance, γ2, q}

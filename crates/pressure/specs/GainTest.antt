@@ -1,7 +1,7 @@
 -- SCOPE 25.3 and 27.1: the test by which the gain applies, (p/fy)(r/t) ≤ 0.5 √(1 - 0.75 κ²) - 0.25 κ, what its κ is by either order, and when it is in doubt.
 use Rattle.std.specs.Prelude.{ℕ, ◌<◌, Bool, true, false, ◌≡◌}
 use Rattle.cylinder.specs.declared.Cylinder.{Cylinder}
-use Rattle.cylinder.specs.Fraction.{Fraction, whole, hundredths, thousandths, ◌⊕◌, ◌⊖◌, ◌⊗◌, ◌⊘◌, ◌↑◌, ◌atMost◌}
+use Rattle.cylinder.specs.Fraction.{Fraction, whole, hundredths, thousandths, ◌⊕◌, ◌⊖◌, ◌⊗◌, ◌⊘◌, ◌↑◌, ◌at_most◌}
 use Rattle.cylinder.specs.Number.{exactly}
 use Rattle.cylinder.specs.Ideal.{fy, r/t}
 use Rattle.cylinder.specs.Resistance.{κ2, tolerance, q, axial_s}

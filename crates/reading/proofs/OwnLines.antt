@@ -25,6 +25,7 @@ use Rattle.reading.proofs.Answers.{answer_read, answer_right}
 use Rattle.reading.proofs.Shortfall.{text_short}
 
 each_at : (gs : List Group) → Each SmallGroup gs → (m : ℕ) (g : Group) → At gs m g → SmallGroup g
+each_at [] _ m g e = elim e [ ]
 each_at (h ∷ hs) (one, all) zero g e = subst SmallGroup (sym e) one
 each_at (h ∷ hs) (one, all) (suc m) g at = each_at hs all m g at
 

@@ -46,6 +46,7 @@ module _ (k : Check) (passed : k.passed ≡ true) where
   broken_less (h ∷ ks) n (inr (t, f)) = inr (t, broken_less ks n f)
 
   broken_more : (ks : List Check) (n : ℕ) → FirstBroken ks n → FirstBroken (ks ++ (k ∷ [])) n
+  broken_more [] n x' = elim x' [ ]
   broken_more (h ∷ ks) n (inl e) = inl e
   broken_more (h ∷ ks) n (inr (t, f)) = inr (t, broken_more ks n f)
 

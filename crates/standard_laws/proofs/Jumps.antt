@@ -5,7 +5,7 @@ use Prim.Native.Nat.{◌*◌, ◌≤◌}
 use native.Mathlib.Omega.{arith}
 use borrow.Author.Tests.{le-leb}
 use Rattle.cylinder.specs.declared.Cylinder.{Cylinder}
-use Rattle.cylinder.specs.Fraction.{Fraction, whole, tenths, hundredths, ◌atMost◌}
+use Rattle.cylinder.specs.Fraction.{Fraction, whole, tenths, hundredths, ◌at_most◌}
 use Rattle.cylinder.specs.Number.{exactly}
 use Rattle.cylinder.specs.Resistance.{branch1, branch2, κ1, κ2, γ2, tolerance, q}
 

@@ -8,7 +8,7 @@ use native.Mathlib.Omega.{arith}
 use lib.Dec.{lit<}
 use borrow.Author.Tests.{le-leb}
 use Rattle.cylinder.specs.declared.Cylinder.{Cylinder}
-use Rattle.cylinder.specs.Fraction.{Fraction, whole, ◌//◌, ◌⊗◌, ◌⊘◌, ◌↑◌, ◌atMost◌}
+use Rattle.cylinder.specs.Fraction.{Fraction, whole, ◌//◌, ◌⊗◌, ◌⊘◌, ◌↑◌, ◌at_most◌}
 use Rattle.cylinder.specs.Number.{Number, exactly, power_1·25}
 use Rattle.cylinder.specs.Exact.{AtMost, SumOver}
 use Rattle.cylinder.specs.Sum.{axial_test, ring_test, shear_test, Reaches, unloaded, loaded, AxialReaches, RingReaches, ShearReaches, Over}

@@ -3,7 +3,7 @@
 use Rattle.std.specs.Prelude.{ℕ, zero, suc, ◌<◌, ◌≡◌, Bool, true, false, ◌&&◌, ◌||◌}
 use Rattle.algebra.specs.Choice.{pick}
 use Rattle.cylinder.specs.declared.Cylinder.{Cylinder}
-use Rattle.cylinder.specs.Fraction.{Fraction, ◌//◌, whole, tenths, hundredths, ◌⊖◌, ◌⊗◌, ◌↑◌, ◌atMost◌}
+use Rattle.cylinder.specs.Fraction.{Fraction, ◌//◌, whole, tenths, hundredths, ◌⊖◌, ◌⊗◌, ◌↑◌, ◌at_most◌}
 use Rattle.cylinder.specs.Number.{Number, exactly, scaled}
 use Rattle.cylinder.specs.Ideal.{Cφ, r/t, r/l}
 

@@ -232,6 +232,7 @@ groups_long (g ∷ gs) = omega (arith, length-append (spaced_group g) (groups_te
 
 -- the text of a group is a part of theirs
 group_within : (gs : List Group) (n : ℕ) (g : Group) → At gs n g → length (spaced_group g) ≤ length (groups_text gs)
+group_within [] n g e = elim e [ ]
 group_within (h ∷ hs) zero g e = omega (arith, ap (λ (x : Group). length (spaced_group x)) e, length-append (spaced_group h) (groups_text hs))
 group_within (h ∷ hs) (suc n) g at = omega (arith, group_within hs n g at, length-append (spaced_group h) (groups_text hs))
 

@@ -86,8 +86,8 @@ module _ (gs : List Group) (i : ℕ) (there : i < length gs) (out : List ℕ) (a
   group_fits n lt room =
       omega (
         arith,
-        so_far.0,
-        ap length so_far.1,
+        so_far.value,
+        ap length so_far.out_after,
         put_length out at (groups_text (take i gs)),
         groups_part gs (i + 1) n (omega arith),
         ap length (groups_next gs i there),

@@ -1,0 +1,15 @@
+use mathlib.Core.Path.{◌≡◌, subst}
+use Prim.Native.Nat.{ℕ, ◌≤◌, ◌-◌}
+use native.Mathlib.Nat.{le_antisymm}
+use native.Mathlib.Omega.{arith}
+use borrow.Author.Rules.{rules}
+use lib.ListN.{take}
+use Rattle.cases.specs.Answering.{WantedBy}
+use Rattle.cases.proofs.Wanting.{wanted_step}
+use Rattle.cases.proofs.Cases.wanted.Given as goal
+
+abbrev pub invariant-loop-i : goal.invariant-loop-i
+invariant-loop-i s = (s.i ≤ s.self.count) × WantedBy (take s.i s.self.groups) s.w
+
+abbrev pub decreases-loop-i : goal.decreases-loop-i
+decreases-loop-i s = s.self.count - s.i

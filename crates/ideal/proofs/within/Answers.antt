@@ -1,0 +1,7 @@
+-- `ideal::within` meets its contract. Assumes nothing.
+use mathlib.Core.Path.{◌∙◌}
+use borrow.Author.Rules.{rules}
+use Rattle.ideal.proofs.within.Goals as goal
+
+pub returns : goal.returns
+returns c = c.is_at_least.ensures ∙ c.compare.ensures.within

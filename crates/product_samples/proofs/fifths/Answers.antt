@@ -1,0 +1,8 @@
+-- `product_samples::fifths` meets its contract. Assumes nothing.
+use mathlib.Core.Path.{◌∙◌}
+use native.Mathlib.Nat.{mul-one}
+use borrow.Author.Rules.{rules}
+use Rattle.product_samples.proofs.fifths.Goals as goal
+
+pub returns : goal.returns
+returns c = c.at_most.ensures ∙ rw (c.times-j.ensures.is, c.fifth-i.ensures.is, c.fifth-k.ensures.is) (simp mul-one)

@@ -1,0 +1,22 @@
+-- `slenderness_grid::bent_guess` meets its contract. Assumes nothing.
+use mathlib.Core.Path.{ap, ◌∙◌}
+use Prim.Native.Nat.{◌*◌}
+use borrow.Author.Rules.{rules}
+use Rattle.interval.specs.declared.Interval.{Interval}
+use Rattle.guess.specs.declared.Degree.TheVariants.{Two}
+use Rattle.guess.specs.Guess.{guess_from}
+use Rattle.interval_root.specs.Leading.{leading_of}
+use Rattle.slenderness_grid.proofs.bent_guess.Goals as goal
+
+pub returns : goal.returns
+returns c = 
+    let r = c.rough_root-root in
+    record {
+      root = r.result;
+      rough = r.ensures;
+      x = c.minus-x.result;
+      for_x = λ n m a b. c.minus-x.ensures n (m * r.result) (rw c.lifted.ensures a) (c.times-e.ensures m r.result b c.of.ensures);
+      y = c.raised-y.result;
+      for_y = c.raised-y.ensures;
+      is = c.guess_of.ensures ∙ ap (λ (z : Interval). guess_from (leading_of c.minus-x.result) (leading_of z) Two) c.lifted-2.ensures;
+    }

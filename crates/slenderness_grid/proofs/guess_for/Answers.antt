@@ -1,0 +1,21 @@
+-- `slenderness_grid::guess_for` meets its contract. Assumes nothing.
+use borrow.Author.Rules.{rules}
+use Rattle.slenderness_grid.proofs.guess_for.Goals as goal
+
+pub returns-then-short : goal.returns-then-short
+returns-then-short c = rw (c.in-Axial.is, c.if-short.true) c.plain_guess.ensures
+
+pub returns-else-short : goal.returns-else-short
+returns-else-short c = rw (c.in-Axial.is, c.if-short.false) c.bent_guess.ensures
+
+pub returns-then-short-2 : goal.returns-then-short-2
+returns-then-short-2 c = rw (c.in-Ring.is, c.if-short-2.true) c.plain_guess-then-short-2.ensures
+
+pub returns-else-short-2 : goal.returns-else-short-2
+returns-else-short-2 c = rw (c.in-Ring.is, c.if-short-2.false) c.plain_guess-else-short-2.ensures
+
+pub returns-then-short-3 : goal.returns-then-short-3
+returns-then-short-3 c = rw (c.in-Shear.is, c.if-short-3.true) c.shear_guess.ensures
+
+pub returns-else-short-3 : goal.returns-else-short-3
+returns-else-short-3 c = rw (c.in-Shear.is, c.if-short-3.false) c.plain_guess-else-short-3.ensures

@@ -1,0 +1,12 @@
+-- `term::above` meets its contract. Assumes nothing.
+use borrow.Author.Rules.{rules}
+use Rattle.term.proofs.above.Goals as goal
+
+pub returns-in-Axial : goal.returns-in-Axial
+returns-in-Axial c = rw c.in-Axial.is c.second_above.ensures
+
+pub returns-in-Ring : goal.returns-in-Ring
+returns-in-Ring c = rw c.in-Ring.is c.first_above.ensures
+
+pub returns-in-Shear : goal.returns-in-Shear
+returns-in-Shear c = rw c.in-Shear.is c.first_above-in-Shear.ensures

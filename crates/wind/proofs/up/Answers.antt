@@ -1,0 +1,7 @@
+-- `wind::up` meets its contract. Assumes nothing.
+use borrow.Author.Rules.{rules}
+use Rattle.wind.proofs.Rows.{rounded_up}
+use Rattle.wind.proofs.up.Goals as goal
+
+pub returns : goal.returns
+returns c = rounded_up c.args.n c.args.d c.requires.0
