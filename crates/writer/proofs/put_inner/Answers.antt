@@ -13,7 +13,7 @@ put_pressure-requires c = rw c.in-Given.is at c.requires
 pub returns-in-Missing : goal.returns-in-Missing
 unfolding put
 returns-in-Missing c =
-    wrote_as _ _ _ _ _ _ (ap inner_text (sym c.in-Missing.is)) (omega arith, refl)
+    wrote_as _ _ _ _ _ _ (ap inner_text (sym c.in-Missing.is)) (record { value = omega arith; out_after = refl })
 
 pub returns-in-Given : goal.returns-in-Given
 returns-in-Given c =

@@ -29,7 +29,10 @@ returns-then-n-gt0 c =
 pub put_line-requires : goal.put_line-requires
 put_line-requires c = 
     let x = c.args in
-    (c.requires, writing_fits (load_cases x.c) x.out.now c.if-out-lt-ROOM_LEAST.false (counts x.c c.requires c.if-c-eq0.false) _ c.refusal-n.ensures c.if-n-gt0.false)
+    record {
+      count_bound = c.requires;
+      c_in_bounds = writing_fits (load_cases x.c) x.out.now c.if-out-lt-ROOM_LEAST.false (counts x.c c.requires c.if-c-eq0.false) _ c.refusal-n.ensures c.if-n-gt0.false;
+    }
 
 pub returns : goal.returns
 returns c = 
