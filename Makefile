@@ -6,7 +6,7 @@
 #     make install            install what is built into PREFIX (/usr/local); needs no rt once it is built
 #     make uninstall          remove what install put there, with the same PREFIX, LIBDIR and DESTDIR
 #     make check              run every test of tests/ on what is built, a minute; .ci/run is the whole gate, which proves all again
-#     make clean              remove target/, so all that was proved and built
+#     make clean              remove target/ and crates/*/out/, so all that was proved and built
 #     make help               this list
 #
 # PREFIX=/usr/local           where the installation is found
@@ -23,7 +23,7 @@ VERSION := $(call number,MAJOR).$(call number,MINOR)
 program = target/bin/shellsheet
 archive = target/staticlib/libcapi.a
 driver = target/driver
-sources = crates.txt $(shell find crates -name '*.rt' -o -name '*.antt')
+sources = crates.txt $(shell find crates -path 'crates/*/out' -prune -o \( -name '*.rt' -o -name '*.antt' \) -print)
 
 all: $(program) $(archive)
 program: $(program)
@@ -31,16 +31,17 @@ driver: $(driver)
 
 # File times alone tell what is old, so that what is built can be installed where there is no rt.
 $(program): $(sources)
-	@mkdir -p target
+	@mkdir -p $(@D)
 	@command -v rt >target/check.log || { echo 'make: rt, the Rattle toolchain, is not on the PATH' >&2; exit 1; }
 	@echo 'Proving and building the program: 4 to 5 minutes the first time, on two cores. To follow it: tail -f target/check.log'
-	rt check shellsheet >target/check.log 2>&1 || { tail -n 40 target/check.log; exit 1; }
-	@touch -c $@
+	(cd crates/shellsheet && rt run -- --version) >target/check.log 2>&1 || { tail -n 40 target/check.log; exit 1; }
+	cp crates/shellsheet/out/shellsheet $@
 
 $(archive): $(sources) | $(program)
+	@mkdir -p $(@D)
 	@echo 'Proving and building the archive for C: under a minute. To follow it: tail -f target/staticlib.log'
-	rt staticlib capi >target/staticlib.log 2>&1 || { rm -f $@; tail -n 40 target/staticlib.log; exit 1; }
-	@touch -c $@
+	(cd crates/capi && rt lib) >target/staticlib.log 2>&1 || { rm -f $@; tail -n 40 target/staticlib.log; exit 1; }
+	cp crates/capi/out/libcapi.a $@
 
 $(driver): tests/driver.c $(header) $(archive)
 	gcc -std=c11 -Wall -Wextra -Wconversion -Werror -O2 -o $@ tests/driver.c $(archive)
@@ -108,7 +109,7 @@ check: all
 	done; echo 'All tests passed. What is not run here: .ci/run proves everything from nothing and tries the edits that must fail.'
 
 clean:
-	rm -rf target
+	rm -rf target crates/*/out
 
 help:
 	@sed -n '/^#/!q; s/^#$$//; s/^# //; p' Makefile; echo 'This is version $(VERSION).'

@@ -11,8 +11,8 @@ abbrev pub StepWithin : ℕ → Step → Type 0
 StepWithin most (Moved n) = n ≤ most
 StepWithin most Ended = Unit {0}
 StepWithin most Again = Unit {0}
-StepWithin most Failed = Unit {0}
+StepWithin most (Failed why) = Unit {0}
 
 abbrev pub InputWithin : ℕ → Input → Type 0
 InputWithin most (Bytes n) = n ≤ most
-InputWithin most Broken = Unit {0}
+InputWithin most (Broken why) = Unit {0}

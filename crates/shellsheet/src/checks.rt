@@ -3,6 +3,7 @@ ghost use Rattle.std.specs.Prelude.{◌≤◌};
 
 use crate::say::{say, say_decimal, say_one, say_three, say_two};
 use record::{Group, Inner, Record, Ring, Wall};
+use std::io;
 
 fn is_within(x: u64, low: u64, high: u64) -> bool {
     if x < low {
@@ -12,31 +13,31 @@ fn is_within(x: u64, low: u64, high: u64) -> bool {
 }
 
 // A field that is outside its range; nothing of one that is not.
-fn say_range(ok: bool, name: &[u8], x: u64, low: u64, high: u64) -> bool {
+fn say_range(rt: &impl Print, name: &[u8], x: u64, low: u64, high: u64) -> io::Result<()> {
     if is_within(x, low, high) {
-        return ok;
+        return Ok(());
     }
-    let ok = say(ok, name);
-    say_three(ok, b" is %, not from % to %", x, low, high)
+    say(rt, name)?;
+    say_three(rt, b" is %, not from % to %", x, low, high)
 }
 
-fn say_dimensions(ok: bool, w: Wall) -> bool {
-    let ok = say_range(
-        ok,
+fn say_dimensions(rt: &impl Print, w: Wall) -> io::Result<()> {
+    say_range(
+        rt,
         b"; r (mm)",
         w.radius,
         Record::RADIUS_LEAST,
         Record::RADIUS_MOST,
-    );
-    let ok = say_range(
-        ok,
+    )?;
+    say_range(
+        rt,
         b"; t (hundredths of a mm)",
         w.thickness,
         Record::THICKNESS_LEAST,
         Record::THICKNESS_MOST,
-    );
+    )?;
     say_range(
-        ok,
+        rt,
         b"; l (mm)",
         w.length,
         Record::LENGTH_LEAST,
@@ -44,16 +45,16 @@ fn say_dimensions(ok: bool, w: Wall) -> bool {
     )
 }
 
-fn say_material(ok: bool, w: Wall) -> bool {
-    let ok = say_range(
-        ok,
+fn say_material(rt: &impl Print, w: Wall) -> io::Result<()> {
+    say_range(
+        rt,
         b"; E (N/mm2)",
         w.modulus,
         Record::MODULUS_LEAST,
         Record::MODULUS_MOST,
-    );
+    )?;
     say_range(
-        ok,
+        rt,
         b"; fy (N/mm2)",
         w.yield_stress,
         Record::YIELD_LEAST,
@@ -62,35 +63,35 @@ fn say_material(ok: bool, w: Wall) -> bool {
 }
 
 // A plain σφ.
-fn say_ring(ok: bool, r: Ring) -> bool {
+fn say_ring(rt: &impl Print, r: Ring) -> io::Result<()> {
     match r {
-        Ring::Stress(stress) => say_range(ok, b"; sphi (kN/m2)", stress, 0, Record::STRESS_MOST),
-        Ring::Wind(_, _) => ok,
+        Ring::Stress(stress) => say_range(rt, b"; sphi (kN/m2)", stress, 0, Record::STRESS_MOST),
+        Ring::Wind(_, _) => Ok(()),
     }
 }
 
-fn say_stresses(ok: bool, g: Group) -> bool {
+fn say_stresses(rt: &impl Print, g: Group) -> io::Result<()> {
     let ring = g.ring;
-    let ok = say_range(ok, b"; sx (kN/m2)", g.axial, 0, Record::STRESS_MOST);
-    let ok = say_ring(ok, ring);
-    say_range(ok, b"; tau (kN/m2)", g.shear, 0, Record::STRESS_MOST)
+    say_range(rt, b"; sx (kN/m2)", g.axial, 0, Record::STRESS_MOST)?;
+    say_ring(rt, ring)?;
+    say_range(rt, b"; tau (kN/m2)", g.shear, 0, Record::STRESS_MOST)
 }
 
 // 6: each field that is outside its range.
-fn say_ranges(ok: bool, w: Wall, g: Group) -> bool {
-    let ok = say(ok, b"out of range");
-    let ok = say_dimensions(ok, w);
-    let ok = say_material(ok, w);
-    say_stresses(ok, g)
+fn say_ranges(rt: &impl Print, w: Wall, g: Group) -> io::Result<()> {
+    say(rt, b"out of range")?;
+    say_dimensions(rt, w)?;
+    say_material(rt, w)?;
+    say_stresses(rt, g)
 }
 
 // 7
-fn say_edges(ok: bool, edges: u64) -> bool {
-    let ok = say_one(ok, b"the edges are %, not 11, 12 or 22", edges);
+fn say_edges(rt: &impl Print, edges: u64) -> io::Result<()> {
+    say_one(rt, b"the edges are %, not 11, 12 or 22", edges)?;
     if edges == 21 {
-        return say(ok, b"; 21 is written 12");
+        return say(rt, b"; 21 is written 12");
     }
-    ok
+    Ok(())
 }
 
 // scale · x / y, cut to a whole number or, if `up`, raised to one; 0 where x or y is out of every range.
@@ -114,9 +115,9 @@ fn ratio(scale: u64, x: u64, y: u64, up: bool) -> u64
 }
 
 // 11
-fn say_shortfall(ok: bool, d: u64) -> bool {
+fn say_shortfall(rt: &impl Print, d: u64) -> io::Result<()> {
     say_two(
-        ok,
+        rt,
         b"the shortfall d (hundredths of a mm) is %, over %",
         d,
         Record::SHORTFALL_MOST,
@@ -145,42 +146,42 @@ fn effective_wall(t: u64, d: u64) -> u64 {
 }
 
 // r over a wall, both in mm, rounded away from its limits.
-fn say_radius_ratio(ok: bool, r: u64, wall: u64) -> bool {
-    let ok = say(ok, b"r/t is ");
+fn say_radius_ratio(rt: &impl Print, r: u64, wall: u64) -> io::Result<()> {
+    say(rt, b"r/t is ")?;
     let low = ratio(2000000, r, wall, false);
     if low < 10000 * Record::THICKNESSES_LEAST {
-        let ok = say_decimal(ok, low);
-        return say(ok, b", below 20");
+        say_decimal(rt, low)?;
+        return say(rt, b", below 20");
     }
-    let ok = say_decimal(ok, ratio(2000000, r, wall, true));
-    say(ok, b", over 2500")
+    say_decimal(rt, ratio(2000000, r, wall, true))?;
+    say(rt, b", over 2500")
 }
 
 // 8
-fn say_wall_ratio(ok: bool, r: u64, t: u64, d: u64) -> bool {
-    let ok = say_radius_ratio(ok, r, effective_wall(t, d));
+fn say_wall_ratio(rt: &impl Print, r: u64, t: u64, d: u64) -> io::Result<()> {
+    say_radius_ratio(rt, r, effective_wall(t, d))?;
     if shortfall_counted(t, d) == 0 {
-        return ok;
+        return Ok(());
     }
-    say(ok, b", with t less d/2")
+    say(rt, b", with t less d/2")
 }
 
 // 9: l/r, rounded away from its limits.
-fn say_length_ratio(ok: bool, l: u64, r: u64) -> bool {
-    let ok = say(ok, b"l/r is ");
+fn say_length_ratio(rt: &impl Print, l: u64, r: u64) -> io::Result<()> {
+    say(rt, b"l/r is ")?;
     let low = ratio(10000, l, r, false);
     if low < 500 {
-        let ok = say_decimal(ok, low);
-        return say(ok, b", below 0.05, that is 1/20");
+        say_decimal(rt, low)?;
+        return say(rt, b", below 0.05, that is 1/20");
     }
-    let ok = say_decimal(ok, ratio(10000, l, r, true));
-    say(ok, b", over 50")
+    say_decimal(rt, ratio(10000, l, r, true))?;
+    say(rt, b", over 50")
 }
 
 // 10
-fn say_imperfection(ok: bool, a: u64) -> bool {
+fn say_imperfection(rt: &impl Print, a: u64) -> io::Result<()> {
     say_two(
-        ok,
+        rt,
         b"the imperfection a (thousandths) is %, over %",
         a,
         Record::IMPERFECTION_MOST,
@@ -188,23 +189,23 @@ fn say_imperfection(ok: bool, a: u64) -> bool {
 }
 
 // 13
-fn say_wind(ok: bool, r: Ring) -> bool {
-    let ok = say(ok, b"the wind is out of range");
+fn say_wind(rt: &impl Print, r: Ring) -> io::Result<()> {
+    say(rt, b"the wind is out of range")?;
     match r {
-        Ring::Stress(_) => ok,
+        Ring::Stress(_) => Ok(()),
         Ring::Wind(gust, vented) => {
-            let ok = say_range(ok, b"; w (N/m2)", gust, 0, Record::GUST_MOST);
-            say_range(ok, b"; v", vented, 0, Record::VENTED)
+            say_range(rt, b"; w (N/m2)", gust, 0, Record::GUST_MOST)?;
+            say_range(rt, b"; v", vented, 0, Record::VENTED)
         }
     }
 }
 
 // 16
-fn say_pressure(ok: bool, inner: Inner) -> bool {
+fn say_pressure(rt: &impl Print, inner: Inner) -> io::Result<()> {
     match inner {
-        Inner::Missing => ok,
+        Inner::Missing => Ok(()),
         Inner::Given(p) => say_two(
-            ok,
+            rt,
             b"the internal pressure p (N/m2) is %, over %",
             p,
             Record::PRESSURE_MOST,
@@ -213,30 +214,30 @@ fn say_pressure(ok: bool, inner: Inner) -> bool {
 }
 
 // 6 and 13 of a load case: each of its own fields that is outside its range.
-pub(crate) fn say_own(ok: bool, n: u64, g: Group) -> bool {
+pub(crate) fn say_own(rt: &impl Print, n: u64, g: Group) -> io::Result<()> {
     let ring = g.ring;
     if n == 13 {
-        return say_wind(ok, ring);
+        return say_wind(rt, ring);
     }
-    let ok = say(ok, b"out of range");
-    say_stresses(ok, g)
+    say(rt, b"out of range")?;
+    say_stresses(rt, g)
 }
 
 // Why a record is refused by n.
-pub(crate) fn say_check(ok: bool, n: u64, c: Record) -> bool {
+pub(crate) fn say_check(rt: &impl Print, n: u64, c: Record) -> io::Result<()> {
     let w = c.wall;
     let g = c.group;
     let ring = g.ring;
     let inner = c.inner;
     match n {
-        6 => say_ranges(ok, w, g),
-        7 => say_edges(ok, w.edges),
-        8 => say_wall_ratio(ok, w.radius, w.thickness, w.shortfall),
-        9 => say_length_ratio(ok, w.length, w.radius),
-        10 => say_imperfection(ok, w.imperfection),
-        11 => say_shortfall(ok, w.shortfall),
-        13 => say_wind(ok, ring),
-        16 => say_pressure(ok, inner),
-        _ => say(ok, b"it breaks a check that has no words"),
+        6 => say_ranges(rt, w, g),
+        7 => say_edges(rt, w.edges),
+        8 => say_wall_ratio(rt, w.radius, w.thickness, w.shortfall),
+        9 => say_length_ratio(rt, w.length, w.radius),
+        10 => say_imperfection(rt, w.imperfection),
+        11 => say_shortfall(rt, w.shortfall),
+        13 => say_wind(rt, ring),
+        16 => say_pressure(rt, inner),
+        _ => say(rt, b"it breaks a check that has no words"),
     }
 }

@@ -10,6 +10,7 @@ use listing::Counts;
 use pressure::Order;
 use reading::read;
 use record::{Group, Inner, Record, Ring};
+use std::io;
 
 // A bound of 2 or more is no upper bound: a sum over 2 has it too.
 const SUM_MOST: u64 = 20000;
@@ -21,46 +22,46 @@ const STRESS_LOW: u64 = 1000;
 const GUST_LOW: u64 = 100;
 
 // The sum by its bounds.
-fn say_sum(ok: bool, low: u64, high: u64) -> bool {
-    let ok = say(ok, b": the sum is ");
+fn say_sum(rt: &impl Print, low: u64, high: u64) -> io::Result<()> {
+    say(rt, b": the sum is ")?;
     if SUM_MOST <= high {
-        let ok = say_decimal(ok, low);
-        return say(ok, b" or more");
+        say_decimal(rt, low)?;
+        return say(rt, b" or more");
     }
     if low == high {
-        return say_decimal(ok, low);
+        return say_decimal(rt, low);
     }
-    let ok = say(ok, b"from ");
-    let ok = say_decimal(ok, low);
-    let ok = say(ok, b" to ");
-    say_decimal(ok, high)
+    say(rt, b"from ")?;
+    say_decimal(rt, low)?;
+    say(rt, b" to ")?;
+    say_decimal(rt, high)
 }
 
 // The remark on the unit of a gust pressure, where it looks mistaken.
-fn say_gust(ok: bool, gust: u64) -> bool {
+fn say_gust(rt: &impl Print, gust: u64) -> io::Result<()> {
     if gust == 0 {
-        return ok;
+        return Ok(());
     }
     if GUST_LOW <= gust {
-        return ok;
+        return Ok(());
     }
     say(
-        ok,
+        rt,
         b"; w is below 100 N/m2, and 1 kN/m2 is 1000 N/m2: is it in N/m2?",
     )
 }
 
 // The whole ring stress that wind is turned into; nothing of a plain one.
-fn say_wind(ok: bool, c: Record, r: Ring) -> bool {
+fn say_wind(rt: &impl Print, c: Record, r: Ring) -> io::Result<()> {
     match r {
-        Ring::Stress(_) => ok,
+        Ring::Stress(_) => Ok(()),
         Ring::Wind(gust, _) => {
-            let ok = say_one(
-                ok,
+            say_one(
+                rt,
                 b"; the wind makes a ring stress of % kN/m2",
                 c.ring_stress(),
-            );
-            say_gust(ok, gust)
+            )?;
+            say_gust(rt, gust)
         }
     }
 }
@@ -88,71 +89,71 @@ fn looks_mistaken(axial: u64, ring: u64, shear: u64) -> bool {
 }
 
 // The stresses that were typed.
-fn say_typed(ok: bool, r: Ring) -> bool {
+fn say_typed(rt: &impl Print, r: Ring) -> io::Result<()> {
     match r {
-        Ring::Stress(_) => say(ok, b"; all stresses"),
-        Ring::Wind(_, _) => say(ok, b"; sx and tau"),
+        Ring::Stress(_) => say(rt, b"; all stresses"),
+        Ring::Wind(_, _) => say(rt, b"; sx and tau"),
     }
 }
 
 // The remark on units, where stresses look mistaken.
-fn say_units(ok: bool, g: Group) -> bool {
+fn say_units(rt: &impl Print, g: Group) -> io::Result<()> {
     let ring = g.ring;
     if !looks_mistaken(g.axial, typed_ring(ring), g.shear) {
-        return ok;
+        return Ok(());
     }
-    let ok = say_typed(ok, ring);
+    say_typed(rt, ring)?;
     say(
-        ok,
+        rt,
         b" are below 1 N/mm2, and 1 N/mm2 is 1000 kN/m2: are they in kN/m2?",
     )
 }
 
 // The size of a gain to four digits, by its added part in 10⁻⁸: 1 and 1.2 times that. Divided first, so that nothing overflows.
-fn say_size(ok: bool, added: u64) -> bool {
-    say_decimal(ok, 10000 + added / 25000 * 3 + added % 25000 * 3 / 25000)
+fn say_size(rt: &impl Print, added: u64) -> io::Result<()> {
+    say_decimal(rt, 10000 + added / 25000 * 3 + added % 25000 * 3 / 25000)
 }
 
 // What a pressure above 0 does.
-fn say_gain(ok: bool, g: Gain) -> bool {
+fn say_gain(rt: &impl Print, g: Gain) -> io::Result<()> {
     match g {
-        Gain::Idle => say(ok, b"; the internal pressure does not act"),
-        Gain::Broken => say(ok, b"; the internal pressure acts, and gives no gain"),
+        Gain::Idle => say(rt, b"; the internal pressure does not act"),
+        Gain::Broken => say(rt, b"; the internal pressure acts, and gives no gain"),
         Gain::Applies(t) => {
-            let ok = say(ok, b"; the internal pressure gives a gain of ");
-            say_size(ok, t)
+            say(rt, b"; the internal pressure gives a gain of ")?;
+            say_size(rt, t)
         }
         Gain::Unclear(t) => {
-            let ok = say(
-                ok,
+            say(
+                rt,
                 b"; it is too near to tell whether the internal pressure gives its gain of ",
-            );
-            say_size(ok, t)
+            )?;
+            say_size(rt, t)
         }
     }
 }
 
 // The same of a record; nothing where there is no pressure.
-fn say_inner(ok: bool, c: Record, inner: Inner) -> bool {
+fn say_inner(rt: &impl Print, c: Record, inner: Inner) -> io::Result<()> {
     match inner {
-        Inner::Missing => ok,
+        Inner::Missing => Ok(()),
         Inner::Given(p) => {
             if p == 0 {
-                return ok;
+                return Ok(());
             }
-            say_gain(ok, c.gain(Order::PressureFirst))
+            say_gain(rt, c.gain(Order::PressureFirst))
         }
     }
 }
 
 // The remarks on a record that has a verdict.
-fn say_remarks(ok: bool, c: Record) -> bool {
+fn say_remarks(rt: &impl Print, c: Record) -> io::Result<()> {
     let g = c.group;
     let ring = g.ring;
     let inner = c.inner;
-    let ok = say_wind(ok, c, ring);
-    let ok = say_inner(ok, c, inner);
-    say_units(ok, g)
+    say_wind(rt, c, ring)?;
+    say_inner(rt, c, inner)?;
+    say_units(rt, g)
 }
 
 // Which word a verdict has, of those in `say_judged`.
@@ -165,47 +166,44 @@ fn verdict_word(v: Verdict) -> u64 {
 }
 
 // A verdict, with the sum.
-fn say_verdict(ok: bool, j: Judgement) -> bool {
+fn say_verdict(rt: &impl Print, j: Judgement) -> io::Result<()> {
     let verdict = j.verdict;
-    say_piece(ok, b" holds% fails% is open", verdict_word(verdict))
+    say_piece(rt, b" holds% fails% is open", verdict_word(verdict))
 }
 
 // A load case of several, with its own verdict.
-fn say_case(ok: bool, k: u64, c: Record) -> bool {
+fn say_case(rt: &impl Print, k: u64, c: Record) -> io::Result<()> {
     let Answer::Judged(j) = c.answer(Order::PressureFirst) else {
-        return ok;
+        return Ok(());
     };
-    let ok = say_one(ok, b"\n  case %", k);
-    let ok = say_verdict(ok, j);
-    let ok = say_sum(ok, j.low, j.high);
-    say_remarks(ok, c)
+    say_one(rt, b"\n  case %", k)?;
+    say_verdict(rt, j)?;
+    say_sum(rt, j.low, j.high)?;
+    say_remarks(rt, c)
 }
 
 // Each of several load cases.
-fn say_cases(ok: bool, c: Cases) -> bool {
-    let mut all = ok;
-    let mut i: usize = 0;
-    while i < 8 {
+fn say_cases(rt: &impl Print, c: Cases) -> io::Result<()> {
+    for i in 0..8usize {
         if i < c.count {
-            all = say_case(all, i as u64 + 1, c.case_at(i));
+            say_case(rt, i as u64 + 1, c.case_at(i))?;
         }
-        i += 1;
     }
-    all
+    Ok(())
 }
 
 // A verdict on a line, with the sum; of several load cases the one that governs, and then each.
-fn say_judged(ok: bool, j: Judgement, line: &[u8]) -> bool {
+fn say_judged(rt: &impl Print, j: Judgement, line: &[u8]) -> io::Result<()> {
     let found = read(line);
     let c = found.cases;
-    let ok = say_verdict(ok, j);
+    say_verdict(rt, j)?;
     if c.count == 1 {
-        let ok = say_sum(ok, j.low, j.high);
-        return say_remarks(ok, c.case_at(0));
+        say_sum(rt, j.low, j.high)?;
+        return say_remarks(rt, c.case_at(0));
     }
-    let ok = say_two(ok, b", case % of % governs", j.case, c.count as u64);
-    let ok = say_sum(ok, j.low, j.high);
-    say_cases(ok, c)
+    say_two(rt, b", case % of % governs", j.case, c.count as u64)?;
+    say_sum(rt, j.low, j.high)?;
+    say_cases(rt, c)
 }
 
 // Whether it is the load case that breaks a check, and not the wall or the pressure.
@@ -231,123 +229,119 @@ fn unloaded(c: Cases) -> Record {
 }
 
 // What stands before a load case, if anything does.
-fn say_between(ok: bool, behind: bool) -> bool {
+fn say_between(rt: &impl Print, behind: bool) -> io::Result<()> {
     if behind {
-        return say(ok, b"; ");
+        return say(rt, b"; ");
     }
-    ok
+    Ok(())
 }
 
 // Load case k, behind others or not, and how it breaks check n by itself.
-fn say_breaking(ok: bool, n: u64, k: u64, behind: bool, g: Group) -> bool {
-    let ok = say_between(ok, behind);
-    let ok = say_one(ok, b"case %: ", k);
-    say_own(ok, n, g)
+fn say_breaking(rt: &impl Print, n: u64, k: u64, behind: bool, g: Group) -> io::Result<()> {
+    say_between(rt, behind)?;
+    say_one(rt, b"case %: ", k)?;
+    say_own(rt, n, g)
 }
 
 // Each load case that breaks check n by itself; behind something or not.
-fn say_each(ok: bool, n: u64, behind: bool, c: Cases) -> bool {
-    let mut all = ok;
+fn say_each(rt: &impl Print, n: u64, behind: bool, c: Cases) -> io::Result<()> {
     let mut next = behind;
-    let mut i: usize = 0;
-    while i < 8 {
+    for i in 0..8usize {
         let one = c.case_at(i);
         if i < c.count && is_own(n, one.group) {
-            all = say_breaking(all, n, i as u64 + 1, next, one.group);
+            say_breaking(rt, n, i as u64 + 1, next, one.group)?;
             next = true;
         }
-        i += 1;
     }
-    all
+    Ok(())
 }
 
 // Why load cases are refused by n: what of the wall or the pressure breaks the check, and then each load case that does.
-fn say_broken(ok: bool, n: u64, c: Cases) -> bool {
+fn say_broken(rt: &impl Print, n: u64, c: Cases) -> io::Result<()> {
     if c.count == 1 {
-        return say_check(ok, n, c.case_at(0));
+        return say_check(rt, n, c.case_at(0));
     }
     let shell = unloaded(c);
     if shell.refusal() == n {
-        let ok = say_check(ok, n, shell);
-        return say_each(ok, n, true, c);
+        say_check(rt, n, shell)?;
+        return say_each(rt, n, true, c);
     }
-    say_each(ok, n, false, c)
+    say_each(rt, n, false, c)
 }
 
 // Why a line is refused by n.
-fn say_why(ok: bool, n: u64, line: &[u8]) -> bool {
+fn say_why(rt: &impl Print, n: u64, line: &[u8]) -> io::Result<()> {
     if n == 4 {
-        return say_one(ok, b"it has % bytes, over 512", line.len() as u64);
+        return say_one(rt, b"it has % bytes, over 512", line.len() as u64);
     }
     let found = read(line);
     if 0 < found.refusal {
-        return say_form(ok, line);
+        return say_form(rt, line);
     }
-    say_broken(ok, n, found.cases)
+    say_broken(rt, n, found.cases)
 }
 
 // A refusal, with what broke the check.
-fn say_refused(ok: bool, n: u64, line: &[u8]) -> bool {
-    let ok = say_one(ok, b" is refused by %: ", n);
-    say_why(ok, n, line)
+fn say_refused(rt: &impl Print, n: u64, line: &[u8]) -> io::Result<()> {
+    say_one(rt, b" is refused by %: ", n)?;
+    say_why(rt, n, line)
 }
 
 // The answer to a line.
-fn say_answer(ok: bool, a: Answer, line: &[u8]) -> bool {
+fn say_answer(rt: &impl Print, a: Answer, line: &[u8]) -> io::Result<()> {
     match a {
-        Answer::Judged(j) => say_judged(ok, j, line),
-        Answer::Refused(n) => say_refused(ok, n, line),
+        Answer::Judged(j) => say_judged(rt, j, line),
+        Answer::Refused(n) => say_refused(rt, n, line),
     }
 }
 
 // Line k of a sheet.
-fn say_line(ok: bool, k: u64, line: &[u8]) -> bool {
-    let ok = say_one(ok, b"line %", k);
-    let ok = say_answer(ok, sheet::answer(line, Order::PressureFirst), line);
-    say(ok, b"\n")
+fn say_line(rt: &impl Print, k: u64, line: &[u8]) -> io::Result<()> {
+    say_one(rt, b"line %", k)?;
+    say_answer(rt, sheet::answer(line, Order::PressureFirst), line)?;
+    say(rt, b"\n")
 }
 
 // The lines of a sheet.
-fn say_lines(ok: bool, sheet: &[u8]) -> bool {
-    let mut all = ok;
+fn say_lines(rt: &impl Print, sheet: &[u8]) -> io::Result<()> {
     let mut rest = sheet;
     let mut k: u64 = 0;
     while 0 < rest.len() {
         k += 1;
-        all = say_line(all, k, first_line(rest));
+        say_line(rt, k, first_line(rest))?;
         let next = after_line(rest);
         rest = next;
     }
-    all
+    Ok(())
 }
 
 // The counts of a sheet.
-fn say_total(ok: bool, c: Counts) -> bool {
-    let ok = say_three(
-        ok,
+fn say_total(rt: &impl Print, c: Counts) -> io::Result<()> {
+    say_three(
+        rt,
         b"total: lines %, holds %, fails %",
         c.lines,
         c.holds,
         c.fails,
-    );
-    say_two(ok, b", open %, refused %\n", c.opens, c.refused)
+    )?;
+    say_two(rt, b", open %, refused %\n", c.opens, c.refused)
 }
 
 // Why a sheet is turned back with the number n.
-fn say_batch(ok: bool, n: u64) -> bool {
-    let ok = say_one(ok, b"the batch is refused by %: the sheet has over ", n);
-    say_piece(ok, b"%65535 bytes\n%1024 lines\n", n)
+fn say_batch(rt: &impl Print, n: u64) -> io::Result<()> {
+    say_one(rt, b"the batch is refused by %: the sheet has over ", n)?;
+    say_piece(rt, b"%65535 bytes\n%1024 lines\n", n)
 }
 
 // The answers to a sheet in words, and their total; or why the sheet is turned back.
-pub(crate) fn say_answers(ok: bool, sheet: &[u8]) -> bool {
+pub(crate) fn say_answers(rt: &impl Print, sheet: &[u8]) -> io::Result<()> {
     let mut listing = [0u8; 24616];
     let outcome = sheet::run(sheet, &mut listing);
     let refusal = outcome.refusal;
     let counts = outcome.counts;
     if 0 < refusal {
-        return say_batch(ok, refusal);
+        return say_batch(rt, refusal);
     }
-    let ok = say_lines(ok, sheet);
-    say_total(ok, counts)
+    say_lines(rt, sheet)?;
+    say_total(rt, counts)
 }

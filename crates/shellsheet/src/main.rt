@@ -10,140 +10,145 @@ mod say;
 mod scan;
 mod stream;
 
-use check::same;
 use explain::say_answers;
 use help::{say_help, say_version};
-use libc::{STDERR_FILENO, STDIN_FILENO};
-use options::{Options, argument, names_sheet};
+use options::{Options, argument, argument_count, names_sheet};
 use say::{say, say_one};
-use stream::{Input, read_sheet};
+use std::fs;
+use std::io;
+use std::io::{Error, ErrorKind, Read};
+use stream::{Input, fail, read_sheet, write_error};
 
 // Writes "(batch refused N)" and a newline.
-fn say_refusal(ok: bool, n: u64) -> bool {
-    say_one(ok, b"(batch refused %)\n", n)
+fn say_refusal(rt: &impl Print, n: u64) -> io::Result<()> {
+    say_one(rt, b"(batch refused %)\n", n)
 }
 
 // Writes the listing of a sheet.
-fn say_listing(ok: bool, sheet: &[u8]) -> bool {
+fn say_listing(rt: &impl Print, sheet: &[u8]) -> io::Result<()> {
     let mut listing = [0u8; 24616];
     let outcome = sheet::run(sheet, &mut listing);
     let refusal = outcome.refusal;
     let length = outcome.length;
     if refusal == 0 {
-        return say(ok, &listing[..length]);
+        return say(rt, &listing[..length]);
     }
-    say_refusal(ok, refusal)
+    say_refusal(rt, refusal)
 }
 
 // Writes a row for each line whose verdicts by the two readings of the pressure's test differ.
-fn say_readings(ok: bool, sheet: &[u8]) -> bool {
+fn say_readings(rt: &impl Print, sheet: &[u8]) -> io::Result<()> {
     let mut rows = [0u8; 24616];
     let outcome = readings::run(sheet, &mut rows);
     let refusal = outcome.refusal;
     let length = outcome.length;
     if refusal == 0 {
-        return say(ok, &rows[..length]);
+        return say(rt, &rows[..length]);
     }
-    say_refusal(ok, refusal)
+    say_refusal(rt, refusal)
 }
 
 // Writes the line that stands above a listing, if there are several.
-fn say_heading(name: &[u8], o: Options) -> bool {
+fn say_heading(rt: &impl Print, name: &[u8], o: Options) -> io::Result<()> {
     if o.sheets < 2 {
-        return true;
+        return Ok(());
     }
-    let ok = say(true, b"==> ");
-    let ok = say(ok, name);
-    say(ok, b" <==\n")
+    say(rt, b"==> ")?;
+    say(rt, name)?;
+    say(rt, b" <==\n")
 }
 
 // Writes what there is to say of a sheet.
-fn say_sheet(name: &[u8], sheet: &[u8], o: Options) -> bool {
-    let ok = say_heading(name, o);
+fn say_sheet(rt: &impl Print, name: &[u8], sheet: &[u8], o: Options) -> io::Result<()> {
+    say_heading(rt, name, o)?;
     if o.explain {
-        return say_answers(ok, sheet);
+        return say_answers(rt, sheet);
     }
     if o.readings {
-        return say_readings(ok, sheet);
+        return say_readings(rt, sheet);
     }
-    say_listing(ok, sheet)
+    say_listing(rt, sheet)
 }
 
 // Says on standard error why the sheet of this name cannot be read.
-fn complain(name: &[u8]) {
-    io::write_all(STDERR_FILENO, b"shellsheet: ");
-    os::fail(name);
+fn complain(rt: &HostRuntime, name: &[u8], why: Error) {
+    write_error(rt, b"shellsheet: ");
+    fail(rt, name, why);
 }
 
-// Lists the sheet that is open as `fd`. This and what follows answer whether all was written.
-fn list(fd: i32, name: &[u8], o: Options) -> bool {
+// Lists the sheet that `from` reads. This and what follows fail where not all is written.
+fn list<R: Read>(rt: &HostRuntime, from: &mut R, name: &[u8], o: Options) -> io::Result<()> {
     let mut sheet = [0u8; 65536];
-    let Input::Bytes(n) = read_sheet(fd, &mut sheet) else {
-        complain(name);
-        return true;
-    };
-    say_sheet(name, &sheet[..n], o)
+    match read_sheet(from, &mut sheet) {
+        Input::Bytes(n) => say_sheet(rt, name, &sheet[..n], o),
+        Input::Broken(why) => {
+            complain(rt, name, why);
+            Ok(())
+        }
+    }
+}
+
+// Opens the sheet of this name, which std takes only where it is UTF-8.
+fn open(rt: &HostRuntime, name: &[u8]) -> io::Result<fs::File> {
+    match str::from_utf8(name) {
+        Ok(path) => fs::open(rt, path),
+        Err(_) => Err(Error::new(ErrorKind::InvalidFilename, "The name is not UTF-8")),
+    }
 }
 
 // Lists the sheet of this name.
-fn list_named(name: &[u8], o: Options) -> bool {
-    if same(name, b"-") {
-        return list(STDIN_FILENO, b"standard input", o);
+fn list_named(rt: &HostRuntime, name: &[u8], o: Options) -> io::Result<()> {
+    if name == b"-".as_slice() {
+        return list(rt, &mut rt.stdin(), b"standard input", o);
     }
-    let fd = os::open_read(name);
-    if fd < 0 {
-        complain(name);
-        return true;
+    match open(rt, name) {
+        Ok(mut file) => list(rt, &mut file, name, o),
+        Err(why) => {
+            complain(rt, name, why);
+            Ok(())
+        }
     }
-    let ok = list(fd, name, o);
-    libc::close(fd);
-    ok
 }
 
 // Lists the sheet that argument i names, if it names one.
-fn list_argument(i: usize, o: Options) -> bool {
+fn list_argument(rt: &HostRuntime, i: usize, o: Options) -> io::Result<()> {
     let end = o.end;
-    let mut name = io::buffer();
-    let n = argument(i, &mut name);
+    let mut name = [0u8; 4096];
+    let n = argument(rt, i, &mut name);
     if !names_sheet(i, end, &name[..n]) {
-        return true;
+        return Ok(());
     }
-    list_named(&name[..n], o)
+    list_named(rt, &name[..n], o)
 }
 
 // Lists the sheets that the arguments name, up to the first write that fails.
-fn list_all(o: Options) -> bool {
-    let count = os::arg_count();
-    let mut i: usize = 1;
-    while i < count {
-        if !list_argument(i, o) {
-            return false;
-        }
-        i += 1;
+fn list_all(rt: &HostRuntime, o: Options) -> io::Result<()> {
+    for i in 1..argument_count(rt) {
+        list_argument(rt, i, o)?;
     }
-    true
+    Ok(())
 }
 
 // Does what the arguments ask for.
-fn run(o: Options) -> bool {
+fn run(rt: &HostRuntime, o: Options) -> io::Result<()> {
     if o.unknown {
-        return true;
+        return Ok(());
     }
     if o.help {
-        return say_help();
+        return say_help(rt);
     }
     if o.version {
-        return say_version();
+        return say_version(rt);
     }
     if o.sheets == 0 {
-        return list(STDIN_FILENO, b"standard input", o);
+        return list(rt, &mut rt.stdin(), b"standard input", o);
     }
-    list_all(o)
+    list_all(rt, o)
 }
 
-fn main() {
-    let o = Options::read();
-    if !run(o) {
-        os::fail(b"shellsheet: standard output");
+fn main(rt: HostRuntime) {
+    let o = Options::read(&rt);
+    if let Err(why) = run(&rt, o) {
+        fail(&rt, b"shellsheet: standard output", why);
     }
 }

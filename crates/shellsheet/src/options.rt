@@ -1,8 +1,8 @@
 // The arguments: options, and the sheets that they name.
-ghost use Rattle.io.specs.Counts.{IsPrefixLen};
+ghost use Rattle.std.specs.Prelude.{◌≡◌, ◌≤◌, length, take};
 
-use check::same;
-use libc::STDERR_FILENO;
+use crate::stream::write_error;
+use std::env::{Env, FillError};
 
 // What an argument is.
 #[derive(Clone, Copy)]
@@ -31,15 +31,26 @@ pub(crate) struct Options {
     pub(crate) end: usize,
 }
 
-// Puts argument i at the start of `buf` and answers its length; of a longer one it puts what `buf` holds.
-pub(crate) fn argument(i: usize, buf: &mut [u8]) -> usize
-    ensures { IsPrefixLen result buf.new }
-{
-    let n = os::arg(i, buf);
-    if os::errno() == libc::ENAMETOOLONG {
-        return io::count(isize::MAX, buf);
+// How many arguments there are, the program's own name among them.
+pub(crate) fn argument_count(rt: &impl Env) -> usize {
+    for i in 0..usize::MAX {
+        if let Err(FillError::NotPresent) = rt.arg(i, &mut []) {
+            return i;
+        }
     }
-    n
+    usize::MAX
+}
+
+// Puts argument i at the start of `buf` and answers its length; of a longer one it puts what `buf` holds.
+pub(crate) fn argument(rt: &impl Env, i: usize, buf: &mut [u8]) -> usize
+    ensures bound { result ≤ length buf.new }
+    ensures prefix { result ≡ length (take result buf.new) }
+{
+    match rt.arg(i, buf) {
+        Ok(n) => n,
+        Err(FillError::TooLong) => buf.len(),
+        Err(FillError::NotPresent) => 0,
+    }
 }
 
 // Whether an argument is an option, before the options end: - alone is a sheet, standard input.
@@ -63,32 +74,29 @@ fn word_of(arg: &[u8]) -> Word {
     if !is_option(arg) {
         return Word::Sheet;
     }
-    if same(arg, b"--") {
+    if arg == b"--".as_slice() {
         return Word::End;
     }
-    if same(arg, b"--explain") {
+    if arg == b"--explain".as_slice() {
         return Word::Explain;
     }
-    if same(arg, b"--readings") {
+    if arg == b"--readings".as_slice() {
         return Word::Readings;
     }
-    if same(arg, b"--help") {
+    if arg == b"--help".as_slice() {
         return Word::Help;
     }
-    if same(arg, b"--version") {
+    if arg == b"--version".as_slice() {
         return Word::Version;
     }
     Word::Unknown
 }
 
 // Says on standard error that an option is not known.
-fn refuse(arg: &[u8]) {
-    io::write_all(STDERR_FILENO, b"shellsheet: ");
-    io::write_all(STDERR_FILENO, arg);
-    io::write_all(
-        STDERR_FILENO,
-        b": no such option; shellsheet --help lists them\n",
-    );
+fn refuse(rt: &HostRuntime, arg: &[u8]) {
+    write_error(rt, b"shellsheet: ");
+    write_error(rt, arg);
+    write_error(rt, b": no such option; shellsheet --help lists them\n");
 }
 
 impl Options {
@@ -115,7 +123,7 @@ impl Options {
     }
 
     // With argument i, which is `arg`, before the options end.
-    fn with_word(self, i: usize, arg: &[u8]) -> Self {
+    fn with_word(self, rt: &HostRuntime, i: usize, arg: &[u8]) -> Self {
         let mut o = self;
         match word_of(arg) {
             Word::Sheet => o.with_sheet(),
@@ -140,7 +148,7 @@ impl Options {
                 o
             }
             Word::Unknown => {
-                refuse(arg);
+                refuse(rt, arg);
                 o.unknown = true;
                 o
             }
@@ -148,27 +156,25 @@ impl Options {
     }
 
     // With argument i.
-    fn with(self, i: usize) -> Self {
+    fn with(self, rt: &HostRuntime, i: usize) -> Self {
         let end = self.end;
         if end < i {
             return self.with_sheet();
         }
-        let mut name = io::buffer();
-        let n = argument(i, &mut name);
-        self.with_word(i, &name[..n])
+        let mut name = [0u8; 4096];
+        let n = argument(rt, i, &mut name);
+        self.with_word(rt, i, &name[..n])
     }
 
     // What the arguments ask for, up to the first option that is not known.
-    pub(crate) fn read() -> Self {
-        let count = os::arg_count();
+    pub(crate) fn read(rt: &HostRuntime) -> Self {
+        let count = argument_count(rt);
         let mut o = Options::none(count);
-        let mut i: usize = 1;
-        while i < count {
+        for i in 1..count {
             if o.unknown {
                 return o;
             }
-            o = o.with(i);
-            i += 1;
+            o = o.with(rt, i);
         }
         o
     }
