@@ -1,10 +1,9 @@
 -- `interval::plus` meets its contract: at one power, bounds add. Assumes nothing.
-use borrow.Author.Rules.{rules}
 use Rattle.interval.proofs.Bounds.{plus_low, plus_high}
 use Rattle.interval.proofs.plus.Goals as goal
 
 pub returns : goal.returns
-returns c x y aroundA aroundB known = 
+returns c x y aroundA aroundB known =
     let l = c.levelled-p.ensures in
     let p = l.first known x aroundA in
     let q = l.second known y aroundB in
