@@ -14,7 +14,7 @@ use Rattle.cylinder.specs.Number.{exactly}
 use Rattle.cylinder.specs.Cut.{Cut, as_number, fraction, root_of}
 use Rattle.cylinder.specs.Resistance.{Branch2, branch2}
 use Rattle.cylinder.proofs.Lawful.{Lawful, zero_pow}
-use Rattle.cylinder.proofs.Placed.{Placed, same_reaches, same_within, grid_pos, placed_from}
+use Rattle.cylinder.proofs.Placed.{Placed, same_reaches, grid_pos, placed_from}
 use Rattle.cylinder.proofs.Bounds.{Point, le_le, lt_le}
 use Rattle.cylinder.proofs.Branches.{Same2, same2}
 use Rattle.cylinder.proofs.Curve2.{point}

@@ -23,7 +23,6 @@ use Rattle.cylinder.proofs.Like.{Like}
 use Rattle.cylinder.proofs.Agree.{axial_agree}
 use Rattle.cylinder.proofs.Placed.{Placed}
 use Rattle.cylinder.proofs.Search.{part, placed}
-use Rattle.pressure.specs.declared.Order.{Order}
 use Rattle.pressure.specs.declared.Order.TheVariants.{ToleranceFirst, PressureFirst}
 use Rattle.pressure.specs.Gain.{gain, Acts}
 use Rattle.pressure.specs.GainTest.{test_ratio, FromBelow, Broken, Loses, Doubt, fits, A}

@@ -17,7 +17,6 @@ use Rattle.cylinder.specs.Fraction.{whole}
 use Rattle.cylinder.specs.Ideal.{r/t, l/r, axial_short}
 use Rattle.cylinder.specs.Resistance.{axial_s}
 use Rattle.cylinder.specs.WholeIdeal
-use Rattle.cylinder.specs.Search.{grid}
 use Rattle.cylinder.proofs.Like.{Like, self, again, times, power, at_most_lem}
 use Rattle.cylinder.proofs.Limits.{Sound, axial_lawful}
 use Rattle.cylinder.proofs.Lawful.{Lawful, fraction_lawful, root_lawful}

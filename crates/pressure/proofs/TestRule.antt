@@ -18,7 +18,7 @@ use Rattle.cylinder.proofs.Agree.{Agree, axial_agree}
 use Rattle.cylinder.proofs.Like.{Like, self, again, times, plus}
 use Rattle.cylinder.proofs.Curves.{κ2_like}
 use Rattle.cylinder.proofs.Placed.{Placed, grid_pos, placed_from}
-use Rattle.pressure.specs.Gain.{P38, BranchG, branch_g, gain, Acts}
+use Rattle.pressure.specs.Gain.{BranchG, branch_g, gain, Acts}
 use Rattle.pressure.specs.GainTest.{A, fits, κ, FromBelow, FromAbove, Broken, Doubt}
 use Rattle.pressure.specs.WholeGain
 use Rattle.pressure.specs.WholeGain.{Z, added_above, added_below, reduced, fits_above, fits_below}

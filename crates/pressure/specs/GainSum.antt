@@ -7,7 +7,7 @@ use Rattle.cylinder.specs.Resistance.{branch2, axial_s, γ2, q}
 use Rattle.cylinder.specs.Ideal.{fy}
 use Rattle.cylinder.specs.Exact.{AtMost, AtLeast, Encloses, Close, SumOver}
 use Rattle.cylinder.specs.Sum.{RingReaches, ShearReaches, Over}
-use Rattle.pressure.specs.Gain.{P38, BranchG, branch_g, gain, Acts}
+use Rattle.pressure.specs.Gain.{P38, BranchG, branch_g, Acts}
 use Rattle.pressure.specs.GainTest.{κ, Broken, Doubt}
 
 -- (4), (9) and (53): R for axial stress, with κ2 multiplied by the gain

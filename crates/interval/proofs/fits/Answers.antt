@@ -1,7 +1,6 @@
 -- `interval::fits` meets its contract. Assumes nothing.
 use mathlib.Core.Path.{sym}
 use mathlib.Core.Bool.{true≢false}
-use borrow.Author.Rules.{rules}
 use Rattle.interval.proofs.fits.Goals as goal
 
 pub returns-then-a-gt-HALF : goal.returns-then-a-gt-HALF

@@ -3,7 +3,6 @@ use mathlib.Core.Path.{◌≡◌}
 use Prim.Native.Nat.{ℕ, ◌+◌, ◌-◌, ◌*◌, ◌/◌, ◌^◌, ◌≤◌, ◌<◌}
 use native.Mathlib.Nat.{add_comm, lt_of_le_of_lt}
 use native.Mathlib.Omega.{arith}
-use borrow.Author.Rules.{rules}
 use lib.Dec.{lit<}
 use lib.Pow.{pow-add, pow_pos, shr_le, shr-shr}
 use Rattle.interval.specs.declared.Interval.{Interval}
@@ -32,32 +31,32 @@ meet : (p q s t : ℕ) → s ≡ q - p → t ≡ p - q → p + (s + 1) ≡ t + 1
 meet p q s t d e = omega arith
 
 pub overflow_add-s : goal.overflow_add-s
-overflow_add-s c = 
+overflow_add-s c =
     let f = c.fit.ensures c.if-fit.true in
     omega (arith, c.above-s.ensures, f.3.up_most)
 
 pub overflow_add-t : goal.overflow_add-t
-overflow_add-t c = 
+overflow_add-t c =
     let f = c.fit.ensures c.if-fit.true in
     omega (arith, c.above-t.ensures, f.2.up_most)
 
 pub overflow_add-result : goal.overflow_add-result
-overflow_add-result c = 
+overflow_add-result c =
     let f = c.fit.ensures c.if-fit.true in
     record { fits = lt_of_le_of_lt (gap_half _ _ _ c.shifted-then-fit.ensures f.2.gap_most) (lit< tt) }
 
 pub overflow_add-result-then-fit : goal.overflow_add-result-then-fit
-overflow_add-result-then-fit c = 
+overflow_add-result-then-fit c =
     let f = c.fit.ensures c.if-fit.true in
     record { fits = lt_of_le_of_lt (gap_half _ _ _ c.shifted-then-fit-3.ensures f.3.gap_most) (lit< tt) }
 
 pub overflow_add-result-then-fit-2 : goal.overflow_add-result-then-fit-2
-overflow_add-result-then-fit-2 c = 
+overflow_add-result-then-fit-2 c =
     let f = c.fit.ensures c.if-fit.true in
     omega (arith, c.above-s.ensures, f.2.up_most, f.3.up_most)
 
 pub returns-then-fit : goal.returns-then-fit
-returns-then-fit c = 
+returns-then-fit c =
     let s = c.above-s in
     let t = c.above-t in
     let f = c.fit.ensures c.if-fit.true in

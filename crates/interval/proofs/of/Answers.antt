@@ -3,7 +3,6 @@ use mathlib.Core.Path.{◌≡◌, sym, ap, ◌∙◌}
 use Prim.Native.Nat.{ℕ, zero, suc, ◌+◌, ◌-◌, ◌*◌, ◌%◌, ◌^◌, ◌<◌}
 use native.Mathlib.Nat.{le_of_eq, mul_assoc, add-zero, mod-eq_of_lt}
 use native.Mathlib.Omega.{arith}
-use borrow.Author.Rules.{rules}
 use lib.Count.{count_leading_zeros, leading_top, leading_length}
 use lib.Pow.{shl_exact}
 use Rattle.interval.specs.Around.{top, power, scale}
@@ -23,7 +22,7 @@ few zero p small h = absurd (omega arith)
 few (suc x) p small h = mod-eq_of_lt (omega (arith, (leading_top 64 (suc x) (omega arith) small).1))
 
 pub returns : goal.returns
-returns c known = 
+returns c known =
     let x = c.args.x in
     let z = count_leading_zeros 64 x % 64 in
     let e = shifted x z (4096 - z) (omega arith) (few x _ (omega arith) known) (omega arith) in

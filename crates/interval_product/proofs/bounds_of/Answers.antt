@@ -1,17 +1,13 @@
 -- `interval_product::bounds_of` meets its contract. The invariant: bounds of a number that, times w and the factors that are left, is the whole product. Assumes nothing.
 use mathlib.Core.Path.{◌≡◌, refl, sym, ◌∙◌}
-use mathlib.Core.Bool.{true, true≢false}
+use mathlib.Core.Bool.{true≢false}
 use mathlib.Core.List.{List}
-use mathlib.Core.Logic.{⊎_elim}
-use Prim.Native.Nat.{ℕ, ◌≤◌, ◌<◌, ◌-◌, ◌*◌}
+use Prim.Native.Nat.{ℕ, ◌<◌, ◌*◌}
 use native.Mathlib.Nat.{mul-one}
 use native.Mathlib.Numerals.{add-one}
 use native.Mathlib.Omega.{arith}
-use borrow.Author.Rules.{rules}
-use lib.ListN.{length, drop, get_or, drop_of_length-le}
+use lib.ListN.{length, get_or, drop_of_length-le}
 use lib.Seq.{drop-cons}
-use Rattle.factors.specs.Product.{prod}
-use Rattle.interval.specs.Around.{Around}
 use Rattle.interval.proofs.Bounds.{around_as}
 use Rattle.interval_product.proofs.bounds_of.Goals as goal
 use Rattle.interval_product.proofs.bounds_of.Goals.{then-fits_together, else-fits_together}
@@ -45,25 +41,26 @@ pub loop-i-smaller : goal.loop-i-smaller
 loop-i-smaller c = omega arith
 
 pub loop-i-preserved : goal.loop-i-preserved
-loop-i-preserved c = 
+loop-i-preserved c =
     let f : List ℕ = c.args.f.now in
     let h : c.loop-i.i < length f = omega arith in
     let v = c.loop-i.invariant.1 in
     let e = rw (drop-cons f c.loop-i.i 0 h) at v.3 in
     elim c.if-fits_together.branch [
-      then-fits_together w ↦ (omega arith, (v.0, rw w.n-is v.1, rw w.fresh-is v.2, rw (w.w-is, add-one) (kept v.0 c.loop-i.w (get_or f c.loop-i.i 0) _ _ e)))
-    | else-fits_together w ↦ (
-      omega arith,
-      (
-        v.0 * c.loop-i.w,
-        rw w.n-is (w.joined-n.ensures v.0 v.1 v.2),
-        λ h. absurd (true≢false (sym h ∙ w.fresh-is)),
-        rw (w.w-is, add-one) (moved v.0 c.loop-i.w (get_or f c.loop-i.i 0) _ _ e),
-      ),
-    )]
+      | then-fits_together w ↦ (omega arith, (v.0, rw w.n-is v.1, rw w.fresh-is v.2, rw (w.w-is, add-one) (kept v.0 c.loop-i.w (get_or f c.loop-i.i 0) _ _ e)))
+      | else-fits_together w ↦ (
+        omega arith,
+        (
+          v.0 * c.loop-i.w,
+          rw w.n-is (w.joined-n.ensures v.0 v.1 v.2),
+          λ h. absurd (true≢false (sym h ∙ w.fresh-is)),
+          rw (w.w-is, add-one) (moved v.0 c.loop-i.w (get_or f c.loop-i.i 0) _ _ e),
+        ),
+      )
+    ]
 
 pub returns : goal.returns
-returns c = 
+returns c =
     let f : List ℕ = c.args.f.now in
     let v = c.loop-i.invariant.1 in
     around_as _ (sym (mul-one (v.0 * c.loop-i.w)) ∙ rw (drop_of_length-le f {i = c.loop-i.i} (omega arith)) at v.3) (c.joined.ensures v.0 v.1 v.2)

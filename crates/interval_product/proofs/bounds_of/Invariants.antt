@@ -1,17 +1,9 @@
-use mathlib.Core.Path.{◌≡◌, refl, sym, ◌∙◌}
-use mathlib.Core.Bool.{true, true≢false}
-use mathlib.Core.List.{List}
-use mathlib.Core.Logic.{⊎_elim}
-use Prim.Native.Nat.{ℕ, ◌≤◌, ◌<◌, ◌-◌, ◌*◌}
-use native.Mathlib.Nat.{mul-one}
-use native.Mathlib.Numerals.{add-one}
-use native.Mathlib.Omega.{arith}
-use borrow.Author.Rules.{rules}
-use lib.ListN.{length, drop, get_or, drop_of_length-le}
-use lib.Seq.{drop-cons}
+use mathlib.Core.Path.{◌≡◌}
+use mathlib.Core.Bool.{true}
+use Prim.Native.Nat.{ℕ, ◌≤◌, ◌-◌, ◌*◌}
+use lib.ListN.{length, drop}
 use Rattle.factors.specs.Product.{prod}
 use Rattle.interval.specs.Around.{Around}
-use Rattle.interval.proofs.Bounds.{around_as}
 use Rattle.interval_product.proofs.bounds_of.Given as goal
 
 abbrev pub invariant-loop-i : goal.invariant-loop-i

@@ -1,6 +1,5 @@
 -- `lengths::is_short` meets its contract. Assumes nothing.
 use mathlib.Core.Path.{sym, ap, ◌∙◌}
-use borrow.Author.Rules.{rules}
 use Rattle.cylinder.specs.declared.Stress.{Stress}
 use Rattle.lengths.specs.Short.{short_of}
 use Rattle.lengths.proofs.is_short.Goals as goal

@@ -1,5 +1,5 @@
 -- `lengths::ring_edges` meets its contract. Assumes nothing.
-use lib.Dec.{eqb, lit≤}
+use lib.Dec.{lit≤}
 use borrow.Author.Tests.{eq-eqb, ne_eqb}
 use Rattle.lengths.proofs.ring_edges.Goals as goal
 

@@ -1,6 +1,5 @@
 -- `lengths::ring_short` meets its contract. Assumes nothing.
 use native.Mathlib.Omega.{arith}
-use borrow.Author.Rules.{rules}
 use Rattle.cylinder.specs.WholeIdeal.{ring_edges}
 use Rattle.lengths.proofs.Fits.{length_two, length_wall, edges_two, edges_radius, edges_radius_two, edges_radius_three, short_from, ring_test_lem}
 use Rattle.lengths.proofs.ring_short.Goals as goal
@@ -33,6 +32,6 @@ pub overflow_mul-result-8 : goal.overflow_mul-result-8
 overflow_mul-result-8 c = omega (arith, edges_radius_three c.ring_edges-c.result c.args.s.radius c.ring_edges-c.ensures.2 c.if-r-ge11500.false)
 
 pub returns : goal.returns
-returns c = 
+returns c =
     let s = c.args.s in
     ring_test_lem c.ring_edges-c.result (ring_edges s.edges) s.length s.wall s.radius c.ring_edges-c.ensures.0

@@ -1,7 +1,6 @@
 -- `product_samples::fifths` meets its contract. Assumes nothing.
 use mathlib.Core.Path.{◌∙◌}
 use native.Mathlib.Nat.{mul-one}
-use borrow.Author.Rules.{rules}
 use Rattle.product_samples.proofs.fifths.Goals as goal
 
 pub returns : goal.returns

@@ -1,9 +1,8 @@
 -- `product_samples::forty` meets its contract. Assumes nothing.
 use mathlib.Core.Path.{◌≡◌, refl, ap₂, ◌∙◌}
 use mathlib.Core.List.{[], ◌∷◌}
-use Prim.Native.Nat.{ℕ, ◌+◌, ◌*◌, ◌^◌}
+use Prim.Native.Nat.{ℕ, ◌*◌, ◌^◌}
 use lib.Dec.{leb}
-use borrow.Author.Rules.{rules}
 use Rattle.algebra.proofs.Ring.{ring, quoted}
 use Rattle.factors.specs.Product.{prod}
 use Rattle.product_samples.proofs.forty.Goals as goal

@@ -3,7 +3,6 @@ use mathlib.Core.Path.{◌≡◌, refl, ap₂, ◌∙◌}
 use mathlib.Core.List.{[], ◌∷◌}
 use Prim.Native.Nat.{ℕ, ◌+◌, ◌*◌, ◌^◌}
 use lib.Dec.{leb}
-use borrow.Author.Rules.{rules}
 use Rattle.algebra.proofs.Ring.{ring, quoted}
 use Rattle.factors.specs.Product.{prod}
 use Rattle.product_samples.proofs.sums.Goals as goal

@@ -1,7 +1,6 @@
 -- `steps::probe` meets its contract. Assumes nothing.
 use mathlib.Core.Path.{◌≡◌}
-use mathlib.Core.Bool.{Bool, true, false, ◌&&◌}
-use mathlib.Core.Logic.{⊎_elim}
+use mathlib.Core.Bool.{false, ◌&&◌}
 use Prim.Native.Nat.{ℕ, ◌+◌, ◌-◌, ◌/◌}
 use borrow.Author.Rules.{rules}
 use borrow.Author.Tests.{lt-ltb, le-ltb}
@@ -21,7 +20,7 @@ unfolding probe_at
 returns-then-wish-hi c = (search rules, search rules, rw (lt-ltb _ _ c.if-lo-wish.true, lt-ltb _ _ c.if-wish-hi.true))
 
 pub returns-else-lo-wish : goal.returns-else-lo-wish
-returns-else-lo-wish c = 
+returns-else-lo-wish c =
     let a = c.args in (
       search rules,
       search rules,
