@@ -1,8 +1,8 @@
 -- `nl`, `nl_eq`, `nl_no`: an order, an equation or a contradiction between polynomials over ℕ from facts of the same kind.
 --
 --     nl 8 (a ∷ b ∷ []) (h & k & e &≡ done) (search jobs depth 60 fits 100000) refl          at a ≤ or a <; h and k are ≤ or <, and e is an equation
---     nl-eq 8 (a ∷ b ∷ []) (e &≡ done) (search jobs depth 60 fits 100000) refl refl          at an equation
---     nl-no 8 (a ∷ b ∷ []) (h & k & done) (search jobs depth 60 fits 100000) refl            at ⊥
+--     nl_eq 8 (a ∷ b ∷ []) (e &≡ done) (search jobs depth 60 fits 100000) refl refl          at an equation
+--     nl_no 8 (a ∷ b ∷ []) (h & k & done) (search jobs depth 60 fits 100000) refl            at ⊥
 --
 -- Each fact may be used several times, times monomials that the search finds; the number is how many uses may stand in a row (and 32 times that, tries in all).
 -- The unknowns are listed as for `ring` (Ring.antt), those of the facts too.

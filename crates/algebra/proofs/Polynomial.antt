@@ -57,14 +57,14 @@ ev_mul_con : (k : ℕ) (p : Normal) (ρ : List ℕ) → ev (mul_con k p) ρ ≡ 
 ev_mul_con zero p ρ = sym (zero-mul (ev p ρ))
 ev_mul_con (suc k) p ρ = ev_scale (suc k) p ρ
 
-module _ (f : Normal → Normal) (a : Normal) (times-a : (q : Normal) (ρ : List ℕ) → ev (f q) ρ ≡ ev a ρ * ev q ρ) where
+module _ (f : Normal → Normal) (a : Normal) (times_a : (q : Normal) (ρ : List ℕ) → ev (f q) ρ ≡ ev a ρ * ev q ρ) where
   ev_mul_rest : (q : Normal) (x : ℕ) (ρ : List ℕ) → ev (mul_rest f a q) (x ∷ ρ) ≡ ev a ρ * ev q (x ∷ ρ)
   ev_mul_rest (con k) x ρ = ev_raise (mul_con k a) x ρ ∙ ev_mul_con k a ρ ∙ mul_comm k (ev a ρ)
-  ev_mul_rest (hor b q) x ρ = ev_horner (f b) (mul_rest f a q) (x ∷ ρ) ∙ rw (times-a b ρ, ev_mul_rest q x ρ) (omega arith)
+  ev_mul_rest (hor b q) x ρ = ev_horner (f b) (mul_rest f a q) (x ∷ ρ) ∙ rw (times_a b ρ, ev_mul_rest q x ρ) (omega arith)
 
   ev_mul_rest_nil : (q : Normal) → ev (mul_rest f a q) [] ≡ ev a [] * ev q []
   ev_mul_rest_nil (con k) = ev_raise_nil (mul_con k a) ∙ ev_mul_con k a [] ∙ mul_comm k (ev a [])
-  ev_mul_rest_nil (hor b q) = ev_horner (f b) (mul_rest f a q) [] ∙ times-a b []
+  ev_mul_rest_nil (hor b q) = ev_horner (f b) (mul_rest f a q) [] ∙ times_a b []
 
 -- a product of normal forms is the product of the numbers
 ev_mul : (p q : Normal) (ρ : List ℕ) → ev (mul p q) ρ ≡ ev p ρ * ev q ρ

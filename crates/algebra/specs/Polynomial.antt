@@ -73,10 +73,10 @@ abbrev pub mul_con : ℕ → Normal → Normal
 mul_con zero q = con 0
 mul_con (suc k) q = scale (suc k) q
 
--- q times an a that is over the other unknowns: times-a multiplies by a there
+-- q times an a that is over the other unknowns: times_a multiplies by a there
 abbrev pub mul_rest : (Normal → Normal) → Normal → Normal → Normal
-mul_rest times-a a (con k) = raise (mul_con k a)
-mul_rest times-a a (hor b q) = horner (times-a b) (mul_rest times-a a q)
+mul_rest times_a a (con k) = raise (mul_con k a)
+mul_rest times_a a (hor b q) = horner (times_a b) (mul_rest times_a a q)
 
 abbrev pub mul : Normal → Normal → Normal
 mul (con k) q = mul_con k q

@@ -15,7 +15,7 @@ pub data At : List ℕ → ℕ → Type 0 where
   fourth : {a b c d : ℕ} {ρ : List ℕ} → At (a ∷ b ∷ c ∷ d ∷ ρ) d
   later : {a b c d n : ℕ} {ρ : List ℕ} → At ρ n → At (a ∷ b ∷ c ∷ d ∷ ρ) n
 
--- the tests of q-pow and q-lit compute where the number is a numeral, and are stuck elsewhere
+-- the tests of q_pow and q_lit compute where the number is a numeral, and are stuck elsewhere
 pub data Quote : List ℕ → ℕ → Type 0 where
   q_add : {ρ : List ℕ} {m n : ℕ} → Quote ρ m → Quote ρ n → Quote ρ (m + n)
   q_mul : {ρ : List ℕ} {m n : ℕ} → Quote ρ m → Quote ρ n → Quote ρ (m * n)

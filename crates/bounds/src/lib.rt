@@ -7,7 +7,7 @@ ghost use Rattle.wide.specs.Value.{base};
 ghost use Rattle.guess.specs.Roots.{RootTable};
 ghost use Rattle.cylinder.specs.declared.Stress.TheVariants.{Axial, Ring, Shear};
 ghost use Rattle.cylinder.specs.InLimits.{InLimits};
-ghost use Rattle.cylinder.specs.WholeStress.{excess as excessOf};
+ghost use Rattle.cylinder.specs.WholeStress.{excess as excess_of};
 ghost use Rattle.cylinder.specs.Search.{grid, place as place_of, sum_bounds};
 ghost use Rattle.lengths.specs.Short.{short_of};
 ghost use Rattle.ideal.specs.Decision.{cut_of};
@@ -227,7 +227,7 @@ fn branches_for(kind: Stress, l: Limits) -> Branches
 
 // Thousandths over the permitted imperfection.
 pub fn excess(s: Cylinder) -> u64
-    ensures { result ≡ excessOf s }
+    ensures { result ≡ excess_of s }
 {
     if 1000 < s.imperfection {
         s.imperfection - 1000

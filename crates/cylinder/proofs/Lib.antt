@@ -1,5 +1,5 @@
 -- The theorems, for whoever believes the definitions:
--- L and U of `sum_bounds` are right (sum-bounds, sum-bounds-within); whoever places a slenderness or a term by another way has found the same (place-is, most-is)
+-- L and U of `sum_bounds` are right (sum_bounds_lem, sum_bounds_within); whoever places a slenderness or a term by another way has found the same (place_is, most_is)
 pub mod SumBounds
 pub mod Search
 -- what the verdicts mean; what SCOPE says of the definitions; sums from outside

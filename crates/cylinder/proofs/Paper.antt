@@ -11,7 +11,7 @@ use borrow.Author.Tests.{leb-true, leb-false, le-leb}
 use Rattle.cylinder.specs.declared.Cylinder.{Cylinder}
 use Rattle.cylinder.specs.Fraction.{Fraction, whole, tenths, ◌⊘◌, ◌↑◌, ◌at_most◌}
 use Rattle.cylinder.specs.Number.{Number, exactly}
-use Rattle.cylinder.specs.Resistance.{Branch1, Branch2, branch1, branch2, axial_s, ring_s, shear_s, κ1, κ2, tolerance, q, axial_r, ring_r, shear_rSquare}
+use Rattle.cylinder.specs.Resistance.{Branch1, Branch2, branch1, branch2, axial_s, ring_s, shear_s, κ1, κ2, tolerance, q, axial_r, ring_r, shear_r_square}
 use Rattle.cylinder.specs.Cut.{Cut, fraction}
 use Rattle.cylinder.specs.WholeIdeal
 use Rattle.cylinder.specs.WholeStress.{excess}
@@ -123,9 +123,9 @@ module _ (s : Cylinder) (ok : Sound s) (g h : Fraction) (le : (g at_most h) ≡ 
       ∙ le-leb _ _
       (fall_1 s.yield_stress _ _ _ _ (factor1_falls c (excess s) g.num g.den h.num h.den (leb-true _ _ le)))
 
-  pub shear_falls : branch1 (exactly g) ≡ branch1 (exactly h) → (shear_rSquare s (branch1 (exactly h)) h at_most shear_rSquare s (branch1 (exactly g)) g) ≡ true
+  pub shear_falls : branch1 (exactly g) ≡ branch1 (exactly h) → (shear_r_square s (branch1 (exactly h)) h at_most shear_r_square s (branch1 (exactly g)) g) ≡ true
   shear_falls same =
-      ap (λ (B : Branch1). shear_rSquare s (branch1 (exactly h)) h at_most shear_rSquare s B g) same
+      ap (λ (B : Branch1). shear_r_square s (branch1 (exactly h)) h at_most shear_r_square s B g) same
       ∙ at_most_lem (per (times (power (κ1_like s ok.imperfect c h.num h.den) 2) fy²/3) (power (self 11 10) 2))
       (per (times (power (κ1_like s ok.imperfect c g.num g.den) 2) fy²/3) (power (self 11 10) 2))
       ∙ le-leb _ _ (fall_square s.yield_stress _ _ _ _ (factor1_falls c (excess s) g.num g.den h.num h.den (leb-true _ _ le)))

@@ -109,5 +109,5 @@ abbrev pub ring_r : Cylinder → Branch1 → Fraction → Fraction
 ring_r s br g = reducedκ1 s br g ⊗ fy s ⊘ γ1
 
 -- (6), (11): the square, that of κ fy/√3 over the factor. Decision 11: the standard prints κ = fy/√3.
-abbrev pub shear_rSquare : Cylinder → Branch1 → Fraction → Fraction
-shear_rSquare s br g = reducedκ1 s br g ↑ 2 ⊗ (fy s ↑ 2 ⊘ whole 3) ⊘ γ1 ↑ 2
+abbrev pub shear_r_square : Cylinder → Branch1 → Fraction → Fraction
+shear_r_square s br g = reducedκ1 s br g ↑ 2 ⊗ (fy s ↑ 2 ⊘ whole 3) ⊘ γ1 ↑ 2

@@ -4,7 +4,7 @@ use Rattle.std.specs.Prelude.{ℕ, ◌<◌, Bool, true, ◌≡◌}
 use Rattle.cylinder.specs.declared.Cylinder.{Cylinder}
 use Rattle.cylinder.specs.Fraction.{Fraction, ◌//◌, whole, ◌⊗◌, ◌⊘◌, ◌↑◌, ◌at_most◌}
 use Rattle.cylinder.specs.Number.{Number, exactly, power_1·25}
-use Rattle.cylinder.specs.Resistance.{Branch1, Branch2, branch1, branch2, axial_s, ring_s, shear_s, axial_r, ring_r, shear_rSquare}
+use Rattle.cylinder.specs.Resistance.{Branch1, Branch2, branch1, branch2, axial_s, ring_s, shear_s, axial_r, ring_r, shear_r_square}
 use Rattle.cylinder.specs.Exact.{SumOver}
 
 -- ---- the formulas of the terms, in given branches, at g: each gives a term that reaches b/N
@@ -19,7 +19,7 @@ ring_test s σ b N br g = (power_1·25 (σ ⊘ (whole 1000 ⊗ ring_r s br g))).
 
 -- (τ/R)², which is τ² / (1000² R²)
 abbrev pub shear_test : Cylinder → Fraction → ℕ → ℕ → Branch1 → Fraction → Bool
-shear_test s τ b N br g = b // N at_most τ ↑ 2 ⊘ (whole 1000 ↑ 2 ⊗ shear_rSquare s br g)
+shear_test s τ b N br g = b // N at_most τ ↑ 2 ⊘ (whole 1000 ↑ 2 ⊗ shear_r_square s br g)
 
 -- ---- a term reaches b/N: for a stress of 0 only 0; for another, if the formula does at some fraction g that S reaches, in the branches of S
 

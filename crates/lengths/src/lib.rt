@@ -3,14 +3,14 @@
 
 ghost use Rattle.std.specs.Prelude.{◌≡◌, ◌≤◌};
 ghost use Rattle.cylinder.specs.InLimits.{InLimits};
-ghost use Rattle.cylinder.specs.WholeIdeal.{eta as etaOf, ring_edges, axial_is_short, ring_is_short, shear_is_short};
+ghost use Rattle.cylinder.specs.WholeIdeal.{eta as eta_of, ring_edges, axial_is_short, ring_is_short, shear_is_short};
 ghost use Rattle.lengths.specs.Short.{short_of};
 
 use cylinder::{Cylinder, Stress};
 
 // η of table 1.
 pub fn eta(edges: u64) -> u64
-    ensures { (result ≡ etaOf edges) × (result ≤ 6) }
+    ensures { (result ≡ eta_of edges) × (result ≤ 6) }
 {
     if edges == 11 {
         return 6;

@@ -2,31 +2,26 @@
 use mathlib.Core.Path.{◌≡◌, refl, sym, ap, ◌∙◌, subst}
 use mathlib.Core.Bool.{Bool, true, false, true≢false}
 use mathlib.Core.Logic.{◌⊎◌, inl, inr}
-use mathlib.Core.List.{List, [], ◌∷◌}
+use mathlib.Core.List.{List, []}
 use Prim.Native.Nat.{ℕ, ◌+◌, ◌-◌, ◌≤◌, ◌<◌}
 use native.Mathlib.Omega.{arith}
 use lib.Dec.{leb, ltb, lit≤, lit<}
-use lib.ListN.{length, get_or}
+use lib.ListN.{length}
 use borrow.Author.Tests.{leb-true, leb-false, ltb-true, ltb-false, lt-ltb, le-ltb}
 use Rattle.algebra.proofs.Tests.{and_true, both_true, clash}
-use Rattle.text.specs.Slices.{up_to}
-use Rattle.text.proofs.Laws.{up_to_le}
 use Rattle.cylinder.specs.Exact.{AtMost, AtLeast}
-use Rattle.cylinder.specs.Search.{sum_bounds}
 use Rattle.cylinder.proofs.SumBounds.{sum_bounds_within}
 use Rattle.cylinder.proofs.Verdict
 use Rattle.answer.specs.declared.Verdict.{Verdict}
 use Rattle.answer.specs.declared.Verdict.TheVariants.{Holds, Fails, Open}
 use Rattle.answer.specs.declared.Judgement.{Judgement}
-use Rattle.answer.specs.declared.Answer.TheVariants.{Judged}
 use Rattle.answer.specs.Checks.{FirstBroken, AllPassed}
-use Rattle.answer.specs.Right.{RightBy, judged}
+use Rattle.answer.specs.Right.{judged}
 use Rattle.answer.proofs.Checks.{Every, numbers, among_every, first_among, first_or_lem, first_broken, all_passed, refusal_broken, refusal_none}
 use Rattle.answer.specs.Answering.{refusal_by}
 use Rattle.answer.proofs.Verdicts.{holds_verdict}
 use Rattle.record.specs.Limits.{from_to, cylinder_of}
 use Rattle.record.proofs.Checks.{between}
-use Rattle.record.specs.Right.{BoundsOf, Means}
 use Rattle.record.proofs.Right.{sum_means}
 use Rattle.plates.specs.declared.Shell.{Shell}
 use Rattle.plates.specs.declared.Forces.{Forces}

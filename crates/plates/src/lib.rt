@@ -7,7 +7,7 @@ ghost use Rattle.text.specs.Slices.{up_to};
 ghost use Rattle.answer.specs.Answering.{refusal_by};
 ghost use Rattle.record.specs.Limits.{cylinder_of};
 ghost use Rattle.plates.specs.Plates.{wall_of, rising, list_allowed, forces_up_to, choice_checks, RightChoice, chosen_number};
-ghost use Rattle.plates.specs.Choosing.{unloaded as unloadedOf, refusal_of, suited as suitedTo, fits, plate_judgement, is_holds, plate_holds, choosing, PlaceBounded};
+ghost use Rattle.plates.specs.Choosing.{unloaded as unloaded_of, refusal_of, suited as suited_to, fits, plate_judgement, is_holds, plate_holds, choosing, PlaceBounded};
 
 use answer::{Judgement, Verdict};
 use bounds::Load;
@@ -60,7 +60,7 @@ const STRESS: u64 = 100000;
 impl Shell {
     // The record of a plate without any stress.
     fn unloaded(self, thickness: u64) -> Record
-        ensures { result ≡ unloadedOf self thickness }
+        ensures { result ≡ unloaded_of self thickness }
     {
         Record::of(
             self.radius,
@@ -205,7 +205,7 @@ fn is_list(plates: &[u64]) -> bool
 
 // A thickness in its range that keeps check 8 with any radius in its range.
 fn suited(radius: u64) -> u64
-    ensures { result ≡ suitedTo radius }
+    ensures { result ≡ suited_to radius }
 {
     if radius < Record::THICKNESS_MOST {
         radius

@@ -12,7 +12,7 @@ use Rattle.algebra.proofs.Powers.{mul_pow}
 use Rattle.cylinder.specs.declared.Cylinder.{Cylinder}
 use Rattle.cylinder.specs.Fraction.{Fraction}
 use Rattle.cylinder.specs.Number.{Number}
-use Rattle.cylinder.specs.Resistance.{Branch1, Branch2, branch1, branch2, axial_s, ring_s, shear_s, axial_r, ring_r, shear_rSquare}
+use Rattle.cylinder.specs.Resistance.{Branch1, Branch2, branch1, branch2, axial_s, ring_s, shear_s, axial_r, ring_r, shear_r_square}
 use Rattle.cylinder.specs.Sum.{Reaches, unloaded, loaded, axial_test, ring_test, shear_test, AxialReaches, RingReaches, ShearReaches, Over}
 use Rattle.cylinder.proofs.Limits.{Sound}
 use Rattle.cylinder.proofs.SumBounds.{axial_bracket, ring_bracket, shear_bracket}
@@ -107,8 +107,8 @@ module _ (s : Cylinder) (ok : Sound s) (σ σ' : Fraction) (c d g h : ℕ) (den 
   pub shear_grown : Square c d g h → (b n : ℕ) → ShearReaches s σ b n → ShearReaches s σ' (g * b) (h * n)
   shear_grown fine =
       grown Branch1 branch1 (shear_s s) σ σ' c d g h den' cpos more (shear_test s σ) (shear_test s σ')
-      (λ b n x f. square_keeps σ σ' c d g h (1000 ^ 2 * (shear_rSquare s x f).num) (1 ^ 2 * (shear_rSquare s x f).den) b n den cpos more fine)
-      (λ n x f. square_nought (σ'.den ^ 2) (1000 ^ 2 * (shear_rSquare s x f).num) (σ'.num ^ 2) (1 ^ 2 * (shear_rSquare s x f).den) n) _
+      (λ b n x f. square_keeps σ σ' c d g h (1000 ^ 2 * (shear_r_square s x f).num) (1 ^ 2 * (shear_r_square s x f).den) b n den cpos more fine)
+      (λ n x f. square_nought (σ'.den ^ 2) (1000 ^ 2 * (shear_r_square s x f).num) (σ'.num ^ 2) (1 ^ 2 * (shear_r_square s x f).den) n) _
       (shear_bracket s ok σ').reached
 
 -- ---- the sum

@@ -105,16 +105,16 @@ module _ (sheet out₀ out rest : List ℕ) (at k : ℕ) (here : Here sheet out�
     here_count few = let e = ap length (lines_cons rest more) in omega (arith, here.counted, e, few)
 
     pub here_turn : (next : List ℕ) → next ≡ after is_newline rest → (r : ℕ) (out' : List ℕ) → Wrote out at (row k c) r out' → Here sheet out₀ out' next r (k + 1)
-    here_turn next behind r out' (moved, wrote) =
+    here_turn next behind r out' w =
         subst (λ (x : List ℕ). Here sheet out₀ out' x r (k + 1)) (sym behind)
         (record {
-          next = omega (arith, moved, split, here.next);
+          next = omega (arith, w.value, split, here.next);
           bytes =
-              (λ i. put (wrote i) (moved i) (left (k + 1) (after is_newline rest)))
+              (λ i. put (w.out_after i) (w.value i) (left (k + 1) (after is_newline rest)))
               ∙ sym (put_append out at (row k c) (left (k + 1) (after is_newline rest)))
               ∙ ap (put out at) (sym first)
               ∙ here.bytes;
-          same = ap length wrote ∙ put_length out at (row k c) ∙ here.same;
+          same = ap length w.out_after ∙ put_length out at (row k c) ∙ here.same;
           counted = let e = ap length (lines_cons rest more) in omega (arith, here.counted, e);
         })
 
@@ -122,7 +122,7 @@ module _ (sheet out₀ out rest : List ℕ) (at k : ℕ) (here : Here sheet out�
   here_end done =
       let none : left k rest ≡ [] = gone in
       let e = ap length none in
-      (omega (arith, here.next, e), sym (put_nil out at) ∙ ap (put out at) (sym none) ∙ here.bytes)
+      record { value = omega (arith, here.next, e); out_after = sym (put_nil out at) ∙ ap (put out at) (sym none) ∙ here.bytes }
     where
       gone : left k rest ≡ []
       gone = ap (rows (answer_to ToleranceFirst) (answer_to PressureFirst) k) (lines_nil rest done) ∙ empty

@@ -51,52 +51,52 @@ bent_z E w l p = ring (E ∷ w ∷ l ∷ p ∷ []) (search quoted depth 60 fits 
 
 module _ (s : Cylinder) (p q : ℕ) where
   -- e p⁴, and d q⁴ - c p⁴
-  abbrev pub shearUp : ℕ
-  shearUp = shear_e s * (p * p * (p * p))
+  abbrev pub shear_up : ℕ
+  shear_up = shear_e s * (p * p * (p * p))
 
-  abbrev pub shearRest : ℕ
-  shearRest = q ^ 4 * shear_d s - shear_c s * (p * p * (p * p))
+  abbrev pub shear_rest : ℕ
+  shear_rest = q ^ 4 * shear_d s - shear_c s * (p * p * (p * p))
 
-  decided : {o : Order} → o ≡ order_of (shearUp ^ 2 * s.wall) (shearRest ^ 2 * (200 * s.radius)) → Decides o (shear_short_cut s) p q
+  decided : {o : Order} → o ≡ order_of (shear_up ^ 2 * s.wall) (shear_rest ^ 2 * (200 * s.radius)) → Decides o (shear_short_cut s) p q
   decided =
       shear_short_row s p q (shear_x s.radius s.length s.yield_stress q) (shear_y s.modulus s.wall s.radius p) refl
       (shear_z s.modulus s.wall s.length p)
 
-  pub shear_reached : shearUp ^ 2 * s.wall < shearRest ^ 2 * (200 * s.radius) → true ≡ (shear_short_cut s).reaches p q
+  pub shear_reached : shear_up ^ 2 * s.wall < shear_rest ^ 2 * (200 * s.radius) → true ≡ (shear_short_cut s).reaches p q
   shear_reached h = (decided (order_less _ _ h)).reaches
 
-  pub shear_missed : shearRest ^ 2 * (200 * s.radius) < shearUp ^ 2 * s.wall → false ≡ (shear_short_cut s).reaches p q
+  pub shear_missed : shear_rest ^ 2 * (200 * s.radius) < shear_up ^ 2 * s.wall → false ≡ (shear_short_cut s).reaches p q
   shear_missed h = (decided (order_greater _ _ h)).reaches
 
 -- ---- axial stress, long
 
 module _ (s : Cylinder) (p q : ℕ) where
   -- c p², d q² and e p²
-  abbrev pub bentUp : ℕ
-  bentUp = bent_c s * (p * p)
+  abbrev pub bent_up : ℕ
+  bent_up = bent_c s * (p * p)
 
-  abbrev pub bentGrid : ℕ
-  bentGrid = q ^ 2 * bent_d s
+  abbrev pub bent_grid : ℕ
+  bent_grid = q ^ 2 * bent_d s
 
-  abbrev pub bentRoot : ℕ
-  bentRoot = bent_e s * (p * p)
+  abbrev pub bent_root : ℕ
+  bent_root = bent_e s * (p * p)
 
-  bent_decided : {o : Order} → leb bentGrid bentUp ≡ true → o ≡ order_of ((bentUp - bentGrid) ^ 2 * (200 * s.radius)) (bentRoot ^ 2 * s.wall) → Decides o (root_of 2 (axial_bent s)) p q
+  bent_decided : {o : Order} → leb bent_grid bent_up ≡ true → o ≡ order_of ((bent_up - bent_grid) ^ 2 * (200 * s.radius)) (bent_root ^ 2 * s.wall) → Decides o (root_of 2 (axial_bent s)) p q
   bent_decided e =
       axial_bent_row s p q refl (bent_x s.modulus s.wall s.radius (10 * eta s.edges + 2) p) (bent_y (eta s.edges) s.radius s.yield_stress q) e refl
       (bent_z s.modulus s.wall s.length p)
 
-  pub bent_reached : (bentUp - bentGrid) ^ 2 * (200 * s.radius) < bentRoot ^ 2 * s.wall → true ≡ (root_of 2 (axial_bent s)).reaches p q
-  bent_reached h = go (leb bentGrid bentUp) refl
+  pub bent_reached : (bent_up - bent_grid) ^ 2 * (200 * s.radius) < bent_root ^ 2 * s.wall → true ≡ (root_of 2 (axial_bent s)).reaches p q
+  bent_reached h = go (leb bent_grid bent_up) refl
     where
-      go : (b : Bool) → leb bentGrid bentUp ≡ b → true ≡ (root_of 2 (axial_bent s)).reaches p q
+      go : (b : Bool) → leb bent_grid bent_up ≡ b → true ≡ (root_of 2 (axial_bent s)).reaches p q
       go true e = (bent_decided e (order_less _ _ h)).reaches
       go false e =
           (axial_bent_low s p q refl (bent_x s.modulus s.wall s.radius (10 * eta s.edges + 2) p) (bent_y (eta s.edges) s.radius s.yield_stress q) e).reaches
 
-  pub bent_missed : bentRoot ^ 2 * s.wall < (bentUp - bentGrid) ^ 2 * (200 * s.radius) → false ≡ (root_of 2 (axial_bent s)).reaches p q
-  bent_missed h = go (leb bentGrid bentUp) refl
+  pub bent_missed : bent_root ^ 2 * s.wall < (bent_up - bent_grid) ^ 2 * (200 * s.radius) → false ≡ (root_of 2 (axial_bent s)).reaches p q
+  bent_missed h = go (leb bent_grid bent_up) refl
     where
-      go : (b : Bool) → leb bentGrid bentUp ≡ b → false ≡ (root_of 2 (axial_bent s)).reaches p q
+      go : (b : Bool) → leb bent_grid bent_up ≡ b → false ≡ (root_of 2 (axial_bent s)).reaches p q
       go true e = (bent_decided e (order_greater _ _ h)).reaches
-      go false e = none_below bentUp bentGrid _ _ (leb-false bentGrid bentUp e) h
+      go false e = none_below bent_up bent_grid _ _ (leb-false bent_grid bent_up e) h

@@ -12,7 +12,7 @@ use Rattle.cylinder.specs.Fraction.{Fraction, whole, ◌//◌, ◌⊗◌, ◌⊘
 use Rattle.cylinder.specs.Number.{Number, exactly, power_1·25}
 use Rattle.cylinder.specs.Exact.{AtMost, SumOver}
 use Rattle.cylinder.specs.Sum.{axial_test, ring_test, shear_test, Reaches, unloaded, loaded, AxialReaches, RingReaches, ShearReaches, Over}
-use Rattle.cylinder.specs.Resistance.{Branch1, Branch2, branch1, branch2, axial_s, ring_s, shear_s, axial_r, ring_r, shear_rSquare}
+use Rattle.cylinder.specs.Resistance.{Branch1, Branch2, branch1, branch2, axial_s, ring_s, shear_s, axial_r, ring_r, shear_r_square}
 use Rattle.cylinder.proofs.Limits.{Sound}
 use Rattle.cylinder.proofs.SumBounds.{axial_bracket, ring_bracket, shear_bracket}
 
@@ -48,7 +48,7 @@ module _ (s : Cylinder) (ok : Sound s) where
   pub shear_0 : (τ : Fraction) (N : ℕ) → ShearReaches s τ 0 N
   shear_0 τ N =
       nothing Branch1 branch1 (shear_s s) τ (shear_test s τ) _ 1000000 N
-      (λ br g. no_square N (τ ↑ 2 ⊘ (whole 1000 ↑ 2 ⊗ shear_rSquare s br g))) (shear_bracket s ok τ).reached
+      (λ br g. no_square N (τ ↑ 2 ⊘ (whole 1000 ↑ 2 ⊗ shear_r_square s br g))) (shear_bracket s ok τ).reached
 
 -- ---- the sum of three terms is at most x/y, and so is each
 
@@ -158,8 +158,8 @@ module _ (s : Cylinder) (ok : Sound s) (σx σφ τ : Fraction) (h : AtMost (Ove
       (ring_below s ok σx σφ τ 1 1 h)
 
   -- its square, as the resistance is known by its square
-  pub shear_ratio : AtMostOne Branch1 branch1 (shear_s s) (λ br g. τ ↑ 2 ⊘ (whole 1000 ↑ 2 ⊗ shear_rSquare s br g))
+  pub shear_ratio : AtMostOne Branch1 branch1 (shear_s s) (λ br g. τ ↑ 2 ⊘ (whole 1000 ↑ 2 ⊗ shear_r_square s br g))
   shear_ratio =
-      kept Branch1 branch1 (shear_s s) τ exactly (λ br g. τ ↑ 2 ⊘ (whole 1000 ↑ 2 ⊗ shear_rSquare s br g))
-      (λ e br g. no_ratio (τ ↑ 2) (whole 1000 ↑ 2 ⊗ shear_rSquare s br g) (rw e)) exactly_one
+      kept Branch1 branch1 (shear_s s) τ exactly (λ br g. τ ↑ 2 ⊘ (whole 1000 ↑ 2 ⊗ shear_r_square s br g))
+      (λ e br g. no_ratio (τ ↑ 2) (whole 1000 ↑ 2 ⊗ shear_r_square s br g) (rw e)) exactly_one
       (shear_below s ok σx σφ τ 1 1 h)

@@ -7,13 +7,13 @@ use Rattle.interval.proofs.Bounds.{power_pos, apart}
 use Rattle.interval.proofs.parted.Goals as goal
 
 pub returns-then-p : goal.returns-then-p
-returns-then-p c x y aroundA aroundB = 
+returns-then-p c x y around_a around_b = 
     let l = c.levelled-p in
     let k : 0 < l.result.a + l.result.b = omega arith in
-    apart _ _ x y _ scale c.if-p.true (power_pos l.result.up) (l.ensures.first k x aroundA).1 (l.ensures.second k y aroundB).0
+    apart _ _ x y _ scale c.if-p.true (power_pos l.result.up) (l.ensures.first k x around_a).1 (l.ensures.second k y around_b).0
 
 pub returns-then-p-2 : goal.returns-then-p-2
-returns-then-p-2 c x y aroundA aroundB = 
+returns-then-p-2 c x y around_a around_b = 
     let l = c.levelled-p in
     let k : 0 < l.result.a + l.result.b = omega arith in
-    apart _ _ y x _ scale c.if-p-2.true (power_pos l.result.up) (l.ensures.second k y aroundB).1 (l.ensures.first k x aroundA).0
+    apart _ _ y x _ scale c.if-p-2.true (power_pos l.result.up) (l.ensures.second k y around_b).1 (l.ensures.first k x around_a).0

@@ -32,7 +32,7 @@ overflow_sub-result c =
     omega (arith, a.up_least, b.up_least)
 
 pub returns-then-fits-2 : goal.returns-then-fits-2
-returns-then-fits-2 c x y aroundA aroundB known = 
+returns-then-fits-2 c x y around_a around_b known = 
     let h = c.head in
     let a = c.fits.ensures c.if-fits.true in
     let b = c.fits-then-fits.ensures c.if-fits-2.true in
@@ -41,6 +41,6 @@ returns-then-fits-2 c x y aroundA aroundB known =
     let e = scale_out m.up n.up (omega (arith, a.up_least, b.up_least)) in
     let k = factor_pos m.low n.low h.result top known (lit< tt) h.ensures.0 in
     let g = gap_times m.low n.low h.result m.gap n.gap top (omega arith) (omega arith) (mul-le-mul a.gap_most b.gap_most) h.ensures.1 in (
-      times_low _ _ _ x y (power m.up) (power n.up) _ top scale (power_pos 4096) e (aroundA k.0).0 (aroundB k.1).0 h.ensures.0,
-      times_high _ _ _ x y (power m.up) (power n.up) _ top scale (power_pos 4096) e (aroundA k.0).1 (aroundB k.1).1 g,
+      times_low _ _ _ x y (power m.up) (power n.up) _ top scale (power_pos 4096) e (around_a k.0).0 (around_b k.1).0 h.ensures.0,
+      times_high _ _ _ x y (power m.up) (power n.up) _ top scale (power_pos 4096) e (around_a k.0).1 (around_b k.1).1 g,
     )

@@ -13,19 +13,11 @@ use Rattle.readings.specs.Readings.{row}
 use Rattle.readings.proofs.Laws.{apart_length, apart_parts}
 use Rattle.readings.proofs.put_apart.Goals as goal
 
--- GONE slice-aggregate-put-bytes
--- slice-aggregate-put-bytes : tie.Need-slice-aggregate-put-bytes
--- slice-aggregate-put-bytes c = search rules
-
 pub put_bytes-b-requires : goal.put_bytes-b-requires
 put_bytes-b-requires c = omega (arith, apart_length c.args.k c.args.old c.args.new, c.requires)
 
 pub put_number-c-requires : goal.put_number-c-requires
 put_number-c-requires c = omega (arith, apart_length c.args.k c.args.old c.args.new, c.requires)
-
--- GONE slice-aggregate-put-bytes-2
--- slice-aggregate-put-bytes-2 : tie.Need-slice-aggregate-put-bytes-2
--- slice-aggregate-put-bytes-2 c = search rules
 
 pub put_bytes-d-requires : goal.put_bytes-d-requires
 put_bytes-d-requires c = omega (arith, apart_length c.args.k c.args.old c.args.new, c.requires)
@@ -33,19 +25,11 @@ put_bytes-d-requires c = omega (arith, apart_length c.args.k c.args.old c.args.n
 pub put_word-e-requires : goal.put_word-e-requires
 put_word-e-requires c = omega (arith, apart_length c.args.k c.args.old c.args.new, c.requires)
 
--- GONE slice-aggregate-put-bytes-3
--- slice-aggregate-put-bytes-3 : tie.Need-slice-aggregate-put-bytes-3
--- slice-aggregate-put-bytes-3 c = search rules
-
 pub put_bytes-f-requires : goal.put_bytes-f-requires
 put_bytes-f-requires c = omega (arith, apart_length c.args.k c.args.old c.args.new, c.requires)
 
 pub put_word-g-requires : goal.put_word-g-requires
 put_word-g-requires c = omega (arith, apart_length c.args.k c.args.old c.args.new, c.requires)
-
--- GONE slice-aggregate-put-bytes-4
--- slice-aggregate-put-bytes-4 : tie.Need-slice-aggregate-put-bytes-4
--- slice-aggregate-put-bytes-4 c = search rules
 
 pub put_bytes-requires : goal.put_bytes-requires
 put_bytes-requires c = omega (arith, apart_length c.args.k c.args.old c.args.new, c.requires)
@@ -58,5 +42,4 @@ returns c =
     let w5 = wrote_then _ _ _ _ _ _ _ _ w4 c.put_bytes-f.ensures in
     let w6 = wrote_then _ _ _ _ _ _ _ _ w5 c.put_word-g.ensures in
     let a = c.args in
-    let f = apart_parts _ _ _ a.old a.new _ _ (wrote_then _ _ _ _ _ _ _ _ w6 c.put_bytes.ensures) in
-    record { value = f.0; out_after = f.1 }
+    apart_parts _ _ _ a.old a.new _ _ (wrote_then _ _ _ _ _ _ _ _ w6 c.put_bytes.ensures)

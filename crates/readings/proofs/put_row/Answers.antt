@@ -14,11 +14,9 @@ put_apart-requires c = omega (arith, length_as (row c.args.k) _ _ c.in-Apart.is,
 pub returns-in-Alike : goal.returns-in-Alike
 returns-in-Alike c =
     
-    let f = written_as (row c.args.k) _ _ c.in-Alike.is _ _ _ _ (sym (add-zero _), sym (put_nil _ _)) in
-    record { value = f.0; out_after = f.1 }
+    written_as (row c.args.k) _ _ c.in-Alike.is _ _ _ _ (record { value = sym (add-zero _); out_after = sym (put_nil _ _) })
 
 pub returns-in-Apart : goal.returns-in-Apart
 returns-in-Apart c =
     
-    let f = written_as (row c.args.k) _ _ c.in-Apart.is _ _ _ _ c.put_apart.ensures in
-    record { value = f.0; out_after = f.1 }
+    written_as (row c.args.k) _ _ c.in-Apart.is _ _ _ _ c.put_apart.ensures

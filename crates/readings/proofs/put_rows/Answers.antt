@@ -33,4 +33,4 @@ pub shape_of-out : goal.shape_of-out
 shape_of-out c = c.loop-rest.invariant.same
 
 pub returns : goal.returns
-returns c = let w = here_end _ _ _ _ _ _ c.loop-rest.invariant c.loop-rest-test.false in record { value = w.0 ∙ zero-add _; out_after = w.1 }
+returns c = let w = here_end _ _ _ _ _ _ c.loop-rest.invariant c.loop-rest-test.false in record { value = w.value ∙ zero-add _; out_after = w.out_after }

@@ -6,7 +6,7 @@ use borrow.Author.Rules.{rules}
 use Rattle.wide.specs.Value.{base}
 use Rattle.wide.proofs.Carry.{square_fits}
 use Rattle.interval.specs.Around.{Lies}
-use Rattle.slenderness_grid.proofs.Seen.{bentUp, bentGrid, bentRoot, bent_reached, bent_missed}
+use Rattle.slenderness_grid.proofs.Seen.{bent_up, bent_grid, bent_root, bent_reached, bent_missed}
 use Rattle.slenderness_grid.proofs.bent_reaches.Goals as goal
 
 pub overflow_mul-p : goal.overflow_mul-p
@@ -14,7 +14,7 @@ overflow_mul-p c = omega (arith, square_fits _ c.requires.1)
 
 pub returns-in-Below : goal.returns-in-Below
 returns-in-Below c =
-    let seen : Lies c.parted.result ((bentUp c.args.s c.args.p c.args.q - bentGrid c.args.s c.args.p c.args.q) ^ 2 * (200 * c.args.s.radius)) (bentRoot c.args.s c.args.p c.args.q ^ 2 * c.args.s.wall) = let k = c.requires.2 in
+    let seen : Lies c.parted.result ((bent_up c.args.s c.args.p c.args.q - bent_grid c.args.s c.args.p c.args.q) ^ 2 * (200 * c.args.s.radius)) (bent_root c.args.s c.args.p c.args.q ^ 2 * c.args.s.wall) = let k = c.requires.2 in
     let d = c.minus-a.ensures _ _ (c.times.ensures _ _ k.for_c c.of-m.ensures) k.for_d in
     let e = c.times-b.ensures _ _ k.for_e c.of-m.ensures in
     c.parted.ensures _ _ (c.squared-l.ensures _ d) (c.squared-r.ensures _ e) in
@@ -22,7 +22,7 @@ returns-in-Below c =
 
 pub returns-in-Above : goal.returns-in-Above
 returns-in-Above c =
-    let seen : Lies c.parted.result ((bentUp c.args.s c.args.p c.args.q - bentGrid c.args.s c.args.p c.args.q) ^ 2 * (200 * c.args.s.radius)) (bentRoot c.args.s c.args.p c.args.q ^ 2 * c.args.s.wall) = let k = c.requires.2 in
+    let seen : Lies c.parted.result ((bent_up c.args.s c.args.p c.args.q - bent_grid c.args.s c.args.p c.args.q) ^ 2 * (200 * c.args.s.radius)) (bent_root c.args.s c.args.p c.args.q ^ 2 * c.args.s.wall) = let k = c.requires.2 in
     let d = c.minus-a.ensures _ _ (c.times.ensures _ _ k.for_c c.of-m.ensures) k.for_d in
     let e = c.times-b.ensures _ _ k.for_e c.of-m.ensures in
     c.parted.ensures _ _ (c.squared-l.ensures _ d) (c.squared-r.ensures _ e) in
