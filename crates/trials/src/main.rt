@@ -18,7 +18,7 @@ fn read_full<R: Read>(from: &mut R, buf: &mut [u8]) -> usize
     ensures { result ≤ length buf.new }
 {
     let mut done: usize = 0;
-    for _ in 0..buf.len() {
+    while done < buf.len() {
         match from.read(&mut buf[done..]) {
             Ok(n) if 0 < n => done += n,
             _ => return done,
