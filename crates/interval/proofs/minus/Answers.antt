@@ -5,11 +5,7 @@ use Rattle.interval.proofs.Bounds.{minus_low, minus_high}
 use Rattle.interval.proofs.minus.Goals as goal
 
 pub returns : goal.returns
-<<<<<<< HEAD
-returns c x y around_a around_b known = 
-=======
 returns c x y around_a around_b known =
->>>>>>> a7f9aaa8fd7ecc39bf5e1607c02edeac16534e45
     let l = c.levelled-p in
     let e = c.above.ensures in
     let k : 0 < l.result.a + l.result.b = omega (arith, e) in

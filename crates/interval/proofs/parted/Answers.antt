@@ -6,21 +6,13 @@ use Rattle.interval.proofs.Bounds.{power_pos, apart}
 use Rattle.interval.proofs.parted.Goals as goal
 
 pub returns-then-p : goal.returns-then-p
-<<<<<<< HEAD
-returns-then-p c x y around_a around_b = 
-=======
 returns-then-p c x y around_a around_b =
->>>>>>> a7f9aaa8fd7ecc39bf5e1607c02edeac16534e45
     let l = c.levelled-p in
     let k : 0 < l.result.a + l.result.b = omega arith in
     apart _ _ x y _ scale c.if-p.true (power_pos l.result.up) (l.ensures.first k x around_a).1 (l.ensures.second k y around_b).0
 
 pub returns-then-p-2 : goal.returns-then-p-2
-<<<<<<< HEAD
-returns-then-p-2 c x y around_a around_b = 
-=======
 returns-then-p-2 c x y around_a around_b =
->>>>>>> a7f9aaa8fd7ecc39bf5e1607c02edeac16534e45
     let l = c.levelled-p in
     let k : 0 < l.result.a + l.result.b = omega arith in
     apart _ _ y x _ scale c.if-p-2.true (power_pos l.result.up) (l.ensures.second k y around_b).1 (l.ensures.first k x around_a).0

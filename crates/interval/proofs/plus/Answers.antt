@@ -3,11 +3,7 @@ use Rattle.interval.proofs.Bounds.{plus_low, plus_high}
 use Rattle.interval.proofs.plus.Goals as goal
 
 pub returns : goal.returns
-<<<<<<< HEAD
-returns c x y around_a around_b known = 
-=======
 returns c x y around_a around_b known =
->>>>>>> a7f9aaa8fd7ecc39bf5e1607c02edeac16534e45
     let l = c.levelled-p.ensures in
     let p = l.first known x around_a in
     let q = l.second known y around_b in
