@@ -18,7 +18,7 @@ returns-in-Below c =
     let k = c.requires.2 in
     let n = c.times-m.ensures _ _ o o in
     let d = c.minus-b.ensures _ _ k.for_d (c.times.ensures _ _ k.for_c n) in
-    let e = c.times_a.ensures _ _ k.for_e n in
+    let e = c.times-a.ensures _ _ k.for_e n in
     c.parted.ensures _ _ (c.squared-l.ensures _ e) (c.squared-r.ensures _ d) in
     let a = c.args in shear_reached a.s a.p a.q (rw c.in-Below.is at (seen))
 
@@ -28,7 +28,7 @@ returns-in-Above c =
     let k = c.requires.2 in
     let n = c.times-m.ensures _ _ o o in
     let d = c.minus-b.ensures _ _ k.for_d (c.times.ensures _ _ k.for_c n) in
-    let e = c.times_a.ensures _ _ k.for_e n in
+    let e = c.times-a.ensures _ _ k.for_e n in
     c.parted.ensures _ _ (c.squared-l.ensures _ e) (c.squared-r.ensures _ d) in
     let a = c.args in shear_missed a.s a.p a.q (rw c.in-Above.is at (seen))
 
