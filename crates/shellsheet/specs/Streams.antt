@@ -1,6 +1,6 @@
 -- What holds of what a read or a write answers. Which bytes it moves, no contract can say.
 -- Nobody has to believe this: only contracts of this program speak of it.
-use Rattle.std.specs.Prelude.{◌≡◌, ℕ, ◌≤◌}
+use Rattle.std.specs.Prelude.{ℕ, ◌≤◌}
 use Rattle.shellsheet.specs.declared.stream.Step.{Step}
 use Rattle.shellsheet.specs.declared.stream.Step.TheVariants.{Moved, Ended, Again, Failed}
 use Rattle.shellsheet.specs.declared.stream.Input.{Input}

@@ -14,9 +14,8 @@ use explain::say_answers;
 use help::{say_help, say_version};
 use options::{Options, argument, argument_count, names_sheet};
 use say::{say, say_one};
-use std::fs;
-use std::io;
 use std::io::{Error, ErrorKind, Read};
+use std::{fs, io};
 use stream::{Input, fail, read_sheet, write_error};
 
 // Writes "(batch refused N)" and a newline.
