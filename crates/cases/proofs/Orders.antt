@@ -6,7 +6,6 @@ use Prim.Native.Nat.{ℕ, suc, ◌<◌}
 use native.Mathlib.Omega.{arith}
 use lib.ListN.{length}
 use borrow.Author.Tests.{leb-true}
-use Rattle.cylinder.specs.Search.{Pair}
 use Rattle.pressure.specs.declared.Order.TheVariants.{ToleranceFirst, PressureFirst}
 use Rattle.pressure.specs.GainTest.{test_ratio, Loses, Doubt}
 use Rattle.pressure.proofs.Orders.{SameBounds, apart}
@@ -17,7 +16,6 @@ use Rattle.answer.specs.Answering.{first_or, refusal_by, of_case, judgement_of}
 use Rattle.answer.proofs.Checks.{first_or_lem, first_broken}
 use Rattle.record.specs.declared.Group.{Group}
 use Rattle.record.specs.Limits.{pressure_of, cylinder_of}
-use Rattle.record.specs.Answering.{bounds_of}
 use Rattle.record.proofs.Checks.{cylinder_within}
 use Rattle.record.proofs.Orders.{bounds_same}
 use Rattle.cases.specs.Cases.{LoadCases, alone, case_checks}

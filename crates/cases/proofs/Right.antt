@@ -10,16 +10,15 @@ use lib.ListN.{length, take, get_or}
 use lib.Dec.{lit≤, lit<}
 use Rattle.pressure.specs.declared.Order.{Order}
 use Rattle.algebra.proofs.Tests.{and_true, both_true}
-use Rattle.cylinder.specs.Exact.{AtMost}
 use Rattle.answer.specs.declared.Verdict.{Verdict}
-use Rattle.answer.specs.declared.Verdict.TheVariants.{Holds, Fails, Open}
+use Rattle.answer.specs.declared.Verdict.TheVariants.{Holds, Fails}
 use Rattle.answer.specs.declared.Judgement.{Judgement}
 use Rattle.answer.specs.declared.Answer.{Answer}
 use Rattle.answer.specs.declared.Answer.TheVariants.{Refused, Judged}
 use Rattle.answer.specs.Answers.{verdict_of}
 use Rattle.answer.specs.Governing.{severity_of, governing}
 use Rattle.answer.specs.Checks.{Check, check, FirstBroken, AllPassed}
-use Rattle.answer.specs.Right.{AsCase, RightBy, refused, judged}
+use Rattle.answer.specs.Right.{AsCase, refused, judged}
 use Rattle.answer.specs.Answering.{first_or, refusal_by, of_case, Bounded}
 use Rattle.answer.proofs.Checks.{Among, among_every, first_among, numbers, Every, first_or_lem, first_broken, all_passed, refusal_broken}
 use Rattle.answer.proofs.Right as answers
@@ -29,7 +28,7 @@ use Rattle.record.specs.declared.Group.{Group}
 use Rattle.record.specs.declared.Inner.{Inner}
 use Rattle.record.specs.declared.Record.{Record}
 use Rattle.record.specs.Limits.{dimensions, material, stresses, edges_known, shortfall_allowed, wall_ratio, length_ratio, tolerated, wind_allowed, pressure_allowed, checks}
-use Rattle.record.specs.Right.{RecordOver, Bounds, Right, MeansFor}
+use Rattle.record.specs.Right.{Bounds, Right, MeansFor}
 use Rattle.record.specs.Answering.{judgement_of_record, record_answer}
 use Rattle.record.proofs.Checks.{above_none}
 use Rattle.record.proofs.Right.{bounds_right, verdict_means, holds_at_most}

@@ -1,11 +1,11 @@
 -- Laws for the code: a turn of the loop over the lines, and the outcome case by case.
 -- Assumes nothing.
-use mathlib.Core.Path.{◌≡◌, refl, sym, ap, ◌∙◌, subst}
+use mathlib.Core.Path.{◌≡◌, sym, ap, ◌∙◌}
 use Prim.Native.Nat.{ℕ, ◌+◌, ◌*◌, ◌≤◌, ◌<◌}
 use native.Mathlib.Nat.{zero-add}
 use native.Mathlib.Omega.{arith}
 use mathlib.Core.List.{List, [], ◌∷◌, map}
-use lib.ListN.{length, length-map}
+use lib.ListN.{length}
 use lib.Dec.{lit<}
 use borrow.Author.Tests.{leb-true}
 use Rattle.pressure.specs.declared.Order.TheVariants.{PressureFirst}
@@ -13,15 +13,13 @@ use Rattle.text.specs.Bytes.{is_newline, lines}
 use Rattle.text.specs.Slices.{put, up_to, after}
 use Rattle.text.proofs.Laws.{put_all, Wrote, lines_nil, lines_cons}
 use Rattle.answer.specs.declared.Answer.{Answer}
-use Rattle.answer.specs.declared.Answer.TheVariants.{Refused}
 use Rattle.answer.specs.Checks.{AllPassed}
 use Rattle.answer.specs.Answering.{refusal_by}
 use Rattle.answer.proofs.Checks.{first_broken, all_passed, refusal_broken, refusal_none}
 use Rattle.reading.proofs.Answers.{answer_right, line_refusal}
 use Rattle.listing.specs.declared.Counts.{Counts}
-use Rattle.listing.specs.Listing.{ended, total, counts, no_counts}
+use Rattle.listing.specs.Listing.{counts, no_counts}
 use Rattle.listing.proofs.Totals.{listing_room}
-use Rattle.listing.proofs.Turns.{Here, here_counts, here_listing}
 use Rattle.outcome.specs.declared.Outcome.{Outcome}
 use Rattle.outcome.specs.Sheet.{listing_by, sheet_checks, turned_back, listed_by}
 use Rattle.outcome.specs.Running.{ruled, answers, listing, outcome}

@@ -25,7 +25,6 @@ use Rattle.answer.proofs.Numbers.{SmallRefusal, number_tells}
 use Rattle.cases.proofs.Right.{cases_right, cases_bounded, cases_range, cases_means}
 use Rattle.reading.specs.Text.{Spells}
 use Rattle.reading.specs.Reading.{Form, form_of}
-use Rattle.reading.specs.Reading as Form
 use Rattle.reading.specs.Answering.{answer_form, answer_to}
 use Rattle.reading.specs.Answers.{line_most, RightLine, too_long, not_form, of_cases, MeansLine}
 use Rattle.reading.proofs.Inverse.{spells_some, spells_few, form_right, refused_five, other_text, blank_spells}

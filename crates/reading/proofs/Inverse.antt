@@ -14,14 +14,11 @@ use Rattle.word.specs.declared.Numeral.TheVariants.{Value, Missing}
 use lib.ListN.{length}
 use Prim.Native.Nat.{◌≤◌}
 use mathlib.Core.List.{◌∷◌}
-use Rattle.format.specs.Texts.{Each, each}
 use Rattle.format.specs.Readers.{nothing, starts_with, fixed, number, sequence, changed, whole}
 use Rattle.format.proofs.Formats.{Format, Kinds, Always, EndsWord, format_number, format_sequence, format_changed, format_as, format_before, format_closed, format_one_of, format_one_to, format_optional, Whole, spelt, unspelt, none_whole, whole_none, whole_spells, whole_means, read_whole, format_whole}
-use Rattle.record.specs.declared.Ring.{Ring}
 use Rattle.record.specs.declared.Ring.TheVariants.{Stress, Wind}
 use Rattle.record.specs.declared.Group.{Group}
 use Rattle.record.specs.declared.Inner.{Inner}
-use Rattle.record.specs.declared.Inner.TheVariants as Inner
 use Rattle.record.specs.declared.Wall.{Wall}
 use Rattle.cases.specs.Cases.{LoadCases}
 use Rattle.reading.specs.Text.{seven_text, ring_text, group_text, groups_text, inner_text, shell_text, text, text_without_shortfall, SmallNumber, SmallRing, SmallGroup, SmallGroups, SmallInner, Small, Spells}

@@ -12,7 +12,6 @@ use Rattle.format.specs.Texts.{Each}
 use Rattle.record.specs.declared.Ring.{Ring}
 use Rattle.record.specs.declared.Ring.TheVariants.{Stress, Wind}
 use Rattle.record.specs.declared.Inner.{Inner}
-use Rattle.record.specs.declared.Inner.TheVariants as Inner
 use Rattle.record.specs.declared.Group.{Group}
 use Rattle.cases.specs.Cases.{LoadCases, RightCases}
 use Rattle.cases.specs.Answering.{cases_answer}

@@ -1,6 +1,6 @@
 -- SCOPE 6.6, of a line: a refusal is the same in every right answer, and so is the verdict for given L, U and case.
 -- Assumes nothing.
-use mathlib.Core.Path.{◌≡◌, refl, sym, ◌∙◌, subst}
+use mathlib.Core.Path.{◌≡◌, refl, sym, subst}
 use mathlib.Core.List.{List}
 use Prim.Native.Nat.{ℕ}
 use native.Mathlib.Omega.{arith}

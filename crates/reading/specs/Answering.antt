@@ -3,11 +3,9 @@ use Rattle.std.specs.Prelude.{ℕ, List, length, ltb}
 use Rattle.pressure.specs.declared.Order.{Order}
 use Rattle.algebra.specs.Choice.{pick}
 use Rattle.answer.specs.declared.Answer.{Answer}
-use Rattle.answer.specs.declared.Answer.TheVariants as Answer
 use Rattle.cases.specs.Answering.{cases_answer}
 use Rattle.reading.specs.Answers.{line_most}
-use Rattle.reading.specs.Reading.{Form, Read, form_of}
-use Rattle.reading.specs.Reading as Form
+use Rattle.reading.specs.Reading.{Form, form_of}
 
 abbrev pub answer_form : Order → Form → Answer
 answer_form o (Form.Refused n) = Answer.Refused n

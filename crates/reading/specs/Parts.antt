@@ -9,13 +9,9 @@ use Rattle.cases.specs.declared.Cases.{Cases}
 use Rattle.cases.specs.Answering.{load_cases}
 use Rattle.reading.specs.Reading.{Form, Read, Refused}
 use Rattle.reading.specs.declared.InnerAt.{InnerAt}
-use Rattle.reading.specs.declared.InnerAt.TheVariants as InnerAt
 use Rattle.reading.specs.declared.WallAt.{WallAt}
-use Rattle.reading.specs.declared.WallAt.TheVariants as WallAt
 use Rattle.reading.specs.declared.RingAt.{RingAt}
-use Rattle.reading.specs.declared.RingAt.TheVariants as RingAt
 use Rattle.reading.specs.declared.GroupAt.{GroupAt}
-use Rattle.reading.specs.declared.GroupAt.TheVariants as GroupAt
 use Rattle.reading.specs.declared.GroupsAt.{GroupsAt}
 
 abbrev pub wall_part : WallAt → Part Wall

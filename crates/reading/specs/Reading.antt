@@ -9,7 +9,6 @@ use Rattle.record.specs.declared.Ring.{Ring}
 use Rattle.record.specs.declared.Ring.TheVariants.{Stress, Wind}
 use Rattle.record.specs.declared.Group.{Group}
 use Rattle.record.specs.declared.Inner.{Inner}
-use Rattle.record.specs.declared.Inner.TheVariants as Inner
 use Rattle.cases.specs.Cases.{LoadCases}
 
 -- what a line is: one that spells load cases, or the line's refusal

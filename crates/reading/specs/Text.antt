@@ -7,7 +7,6 @@ use Rattle.record.specs.declared.Ring.{Ring}
 use Rattle.record.specs.declared.Ring.TheVariants.{Stress, Wind}
 use Rattle.record.specs.declared.Group.{Group}
 use Rattle.record.specs.declared.Inner.{Inner}
-use Rattle.record.specs.declared.Inner.TheVariants as Inner
 use Rattle.cases.specs.Cases.{LoadCases}
 
 -- r t l E fy edges a: one space between items, numbers in decimal without leading zeros

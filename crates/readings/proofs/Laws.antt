@@ -30,7 +30,7 @@ use Rattle.outcome.proofs.Laws.{accepted}
 use Rattle.readings.specs.declared.Change.{Change}
 use Rattle.readings.specs.declared.Change.TheVariants.{Alike, Apart}
 use Rattle.readings.specs.declared.Compared.{Compared}
-use Rattle.readings.specs.Readings.{change_of, row, rows, rows_of, Compares, turned, compared, Readings}
+use Rattle.readings.specs.Readings.{change_of, row, rows, Compares, turned, compared, Readings}
 use Rattle.readings.specs.Running.{differences, comparison}
 
 -- ---- the room that rows take

@@ -1,11 +1,11 @@
 -- Laws for the code: what a record that breaks no check allows to be called, the stresses of a group as loads, and the bounds of the sum. Assumes nothing.
 use mathlib.Core.Path.{◌≡◌, sym, ap, ◌∙◌, subst}
 use mathlib.Core.Bool.{true}
-use Prim.Native.Nat.{ℕ, ◌*◌, ◌≤◌, ◌<◌}
+use Prim.Native.Nat.{ℕ, ◌*◌, ◌≤◌}
 use native.Mathlib.Omega.{arith}
 use borrow.Author.Tests.{leb-true}
 use Rattle.cylinder.specs.declared.Cylinder.{Cylinder}
-use Rattle.cylinder.specs.Fraction.{Fraction, whole, ◌//◌}
+use Rattle.cylinder.specs.Fraction.{whole, ◌//◌}
 use Rattle.cylinder.specs.Search.{Pair}
 use Rattle.pressure.specs.declared.Order.{Order}
 use Rattle.pressure.specs.WholeGain.{tested_at, line_bounds}
@@ -13,7 +13,6 @@ use Rattle.line_bounds.specs.Places.{Whole}
 use Rattle.cylinder.specs.InLimits.{InLimits}
 use Rattle.bounds.specs.declared.Load.{Load}
 use Rattle.bounds.specs.Stresses.{Small, fraction_of}
-use Rattle.answer.specs.declared.Judgement.{Judgement}
 use Rattle.answer.specs.Answering.{judgement_of}
 use Rattle.answer.specs.Checks.{AllPassed}
 use Rattle.record.specs.declared.Record.{Record}

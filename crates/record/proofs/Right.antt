@@ -1,6 +1,6 @@
 -- The program's answer to a record is Right: refused by the first check that is broken and never otherwise, else judged with bounds that hold.
 -- What follows of right answers: what the verdicts say, and which refusals there are. Assumes nothing.
-use mathlib.Core.Path.{◌≡◌, refl, sym, ap, ◌∙◌}
+use mathlib.Core.Path.{◌≡◌, refl, sym, ◌∙◌}
 use mathlib.Core.List.{List, [], ◌∷◌}
 use Prim.Native.Nat.{ℕ, ◌+◌, ◌≤◌, ◌<◌}
 use native.Mathlib.Nat.{lt_of_not-le}
@@ -21,7 +21,6 @@ use Rattle.answer.specs.declared.Verdict.TheVariants.{Holds, Fails, Open}
 use Rattle.answer.specs.declared.Judgement.{Judgement}
 use Rattle.answer.specs.declared.Answer.{Answer}
 use Rattle.answer.specs.declared.Answer.TheVariants.{Refused, Judged}
-use Rattle.answer.specs.Answers.{verdict_of}
 use Rattle.answer.specs.Answering.{Bounded}
 use Rattle.answer.specs.Checks.{Check, AllPassed}
 use Rattle.answer.specs.Right.{RightBy, AsCase, refused, judged}

@@ -23,7 +23,7 @@ use Rattle.record.specs.declared.Ring.{Ring}
 use Rattle.record.specs.declared.Ring.TheVariants.{Stress, Wind}
 use Rattle.record.specs.declared.Inner.TheVariants.{Missing}
 use Rattle.record.specs.declared.Record.{Record}
-use Rattle.record.specs.Limits.{dimensions, material, ring_in_range, edges_known, shortfall_allowed, wall_ratio, length_ratio, tolerated, wind_allowed, pressure_of, pressure_allowed, checks, record_of, cylinder_of}
+use Rattle.record.specs.Limits.{dimensions, material, ring_in_range, edges_known, shortfall_allowed, wall_ratio, length_ratio, tolerated, wind_allowed, pressure_allowed, checks, record_of, cylinder_of}
 use Rattle.record.specs.Right.{ring_stress, as_stress, Bounds, Right}
 use Rattle.record.specs.Answering.{bounds_of, judgement_of_record, record_answer, ring_stress_of}
 use Rattle.record.proofs.Checks.{cylinder_within}

@@ -1,6 +1,6 @@
 -- What is laid down of a record if SCOPE 20 is left out, so that it has no shortfall: all checks but 11, and the nominal wall in check 8 and in every formula.
 -- The laws of proofs/Shortfall.antt compare with it.
-use Rattle.std.specs.Prelude.{ℕ, ◌*◌, Bool, List, [], ◌∷◌}
+use Rattle.std.specs.Prelude.{◌*◌, Bool, List, [], ◌∷◌}
 use Rattle.pressure.specs.declared.Order.{Order}
 use Rattle.cylinder.specs.declared.Cylinder.{Cylinder}
 use Rattle.cylinder.specs.Search.{Pair}

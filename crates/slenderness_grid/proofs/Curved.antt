@@ -1,6 +1,6 @@
 -- The branches whose ideal stress is a sum with a root are numbers, and so is the one where Cx is at its least. Assumes nothing.
 use mathlib.Core.Bool.{Bool}
-use Prim.Native.Nat.{ℕ, ◌*◌, ◌^◌, ◌<◌}
+use Prim.Native.Nat.{◌<◌}
 use native.Mathlib.Nat.{mul-pos, one-le-pow}
 use native.Mathlib.Omega.{arith}
 use lib.Dec.{eqb, lit<}

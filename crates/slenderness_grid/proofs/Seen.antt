@@ -8,7 +8,6 @@ use borrow.Author.Tests.{leb-false}
 use lib.Dec.{leb}
 use Rattle.algebra.proofs.Ring.{ring, quoted}
 use Rattle.wide.specs.declared.Order.{Order}
-use Rattle.wide.specs.declared.Order.TheVariants.{Less, Greater}
 use Rattle.wide.specs.Order.{order_of}
 use Rattle.root_order.specs.Decision.{Decides}
 use Rattle.order.proofs.Comparison.{order_less, order_greater}

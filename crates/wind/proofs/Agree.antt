@@ -7,7 +7,6 @@ use native.Mathlib.Nat.{mul-pos, one-le-pow, le_trans, mul-sub}
 use native.Mathlib.Omega.{arith}
 use lib.Dec.{leb, eqb, lit<}
 use borrow.Author.Tests.{leb-true, leb-false, le-leb, lt-leb}
-use Rattle.algebra.specs.Choice.{pick}
 use Rattle.algebra.proofs.Ring.{ring, quoted}
 use Rattle.algebra.proofs.Tests.{clash}
 use Rattle.cylinder.specs.declared.Cylinder.{Cylinder}

@@ -19,7 +19,6 @@ use Rattle.format.specs.Texts.{Each}
 use Rattle.listing.proofs.Lines.{plain, plain_append, lines_ended, decimal_plain}
 use Rattle.answer.specs.Checks.{FirstBroken, AllPassed}
 use Rattle.answer.specs.declared.Answer.{Answer}
-use Rattle.answer.specs.declared.Answer.TheVariants as Answer
 use Rattle.answer.specs.declared.Judgement.{Judgement}
 use Rattle.answer.specs.Right.{refused, judged}
 use Rattle.answer.specs.Answering.{refusal_by}
@@ -29,7 +28,6 @@ use Rattle.record.specs.declared.Ring.{Ring}
 use Rattle.record.specs.declared.Ring.TheVariants.{Stress, Wind}
 use Rattle.record.specs.declared.Group.{Group}
 use Rattle.record.specs.declared.Inner.{Inner}
-use Rattle.record.specs.declared.Inner.TheVariants as Inner
 use Rattle.record.specs.Limits.{dimensions, material, stresses, ring_in_range, wind_allowed, pressure_allowed}
 use Rattle.record.proofs.Checks.{Ranges, ranges}
 use Rattle.record.proofs.Wind.{wind_limits}

@@ -1,13 +1,12 @@
 -- `bounds::branches` meets its contract. Assumes nothing.
 use mathlib.Core.Path.{refl, ◌∙◌}
 use lib.Dec.{lit≤, lit<}
-use borrow.Author.Rules.{rules}
 use Rattle.ideal.specs.Decision.{cut_of}
 use Rattle.bounds.proofs.Places.{lawful, far, small, at_reaches}
 use Rattle.bounds.proofs.branches.Goals as goal
 
 pub reaches_at-requires : goal.reaches_at-requires
-reaches_at-requires c = 
+reaches_at-requires c =
     let a = c.args in
     let p = c.requires in
     let law = lawful a.kind a.short a.s p.0 p.1 in
@@ -16,7 +15,7 @@ reaches_at-requires c =
     (k.0, k.1, lit≤ tt, lit≤ tt)
 
 pub reaches_at-requires-2 : goal.reaches_at-requires-2
-reaches_at-requires-2 c = 
+reaches_at-requires-2 c =
     let a = c.args in
     let p = c.requires in
     let law = lawful a.kind a.short a.s p.0 p.1 in
@@ -25,7 +24,7 @@ reaches_at-requires-2 c =
     (k.0, k.1, lit≤ tt, lit≤ tt)
 
 pub reaches_at-requires-3 : goal.reaches_at-requires-3
-reaches_at-requires-3 c = 
+reaches_at-requires-3 c =
     let a = c.args in
     let p = c.requires in
     let law = lawful a.kind a.short a.s p.0 p.1 in
@@ -34,7 +33,7 @@ reaches_at-requires-3 c =
     (k.0, k.1, lit≤ tt, lit≤ tt)
 
 pub returns : goal.returns
-returns c = 
+returns c =
     let a = c.args in
     let p = c.requires in
     let law = lawful a.kind a.short a.s p.0 p.1 in

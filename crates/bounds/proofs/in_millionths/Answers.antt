@@ -1,5 +1,4 @@
 -- `bounds::in_millionths` meets its contract. Assumes nothing.
-use borrow.Author.Rules.{rules}
 use Rattle.bounds.proofs.in_millionths.Goals as goal
 
 pub term_bounds-r-requires : goal.term_bounds-r-requires

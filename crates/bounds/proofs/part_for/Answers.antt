@@ -1,6 +1,5 @@
 -- `bounds::part_for` meets its contract. Assumes nothing.
 use mathlib.Core.Path.{sym, ap, ◌∙◌}
-use borrow.Author.Rules.{rules}
 use Rattle.cylinder.specs.declared.Stress.{Stress}
 use Rattle.bounds.specs.Stresses.{part_for}
 use Rattle.bounds.proofs.part_for.Goals as goal

@@ -1,12 +1,11 @@
 -- `bounds::place` meets its contract. Assumes nothing.
 use native.Mathlib.Omega.{arith}
-use borrow.Author.Rules.{rules}
 use Rattle.ideal.specs.Decision.{cut_of}
 use Rattle.bounds.proofs.Places.{lawful, far, found_near, found_far}
 use Rattle.bounds.proofs.place.Goals as goal
 
 pub returns-then-k-lt400000000 : goal.returns-then-k-lt400000000
-returns-then-k-lt400000000 c = 
+returns-then-k-lt400000000 c =
     let a = c.args in
     let k = a.p.short in
     let i = c.requires.0 in
@@ -15,7 +14,7 @@ returns-then-k-lt400000000 c =
     (f.0, f.1, omega arith, omega arith)
 
 pub returns : goal.returns
-returns c = 
+returns c =
     let a = c.args in
     let k = a.p.short in
     let i = c.requires.0 in

@@ -1,7 +1,6 @@
 -- `bounds::reaches_at` meets its contract. Assumes nothing.
 use native.Mathlib.Nat.{mul-le-mul}
 use native.Mathlib.Omega.{arith}
-use borrow.Author.Rules.{rules}
 use Rattle.bounds.proofs.reaches_at.Goals as goal
 
 pub overflow_mul-result : goal.overflow_mul-result

@@ -1,5 +1,4 @@
 -- `bounds::spot_for` meets its contract. Assumes nothing.
-use borrow.Author.Rules.{rules}
 use Rattle.algebra.proofs.Tests.{clash}
 use Rattle.bounds.proofs.spot_for.Goals as goal
 

@@ -1,6 +1,5 @@
 -- `bounds::spot_of` meets its contract. Assumes nothing.
 use mathlib.Core.Path.{subst, ap, ◌∙◌}
-use borrow.Author.Rules.{rules}
 use Rattle.cylinder.specs.Cut.{Cut}
 use Rattle.cylinder.specs.Search.{grid, place as place_of}
 use Rattle.bounds.specs.Sides.{Sides}
@@ -8,7 +7,7 @@ use Rattle.bounds.proofs.Stresses.{cut_is, lies_for}
 use Rattle.bounds.proofs.spot_of.Goals as goal
 
 pub returns : goal.returns
-returns c = 
+returns c =
     let a = c.args in
     let e = cut_is a.kind a.p.short a.s c.requires.1.is_short in
     let sides = subst (λ (x : Cut). Sides x c.branches-l.result) e c.branches-l.ensures in

@@ -1,5 +1,4 @@
 -- `bounds::spots_for` meets its contract. Assumes nothing.
-use borrow.Author.Rules.{rules}
 use Rattle.bounds.proofs.spots_for.Goals as goal
 
 pub returns : goal.returns

@@ -2,13 +2,12 @@
 use Prim.Native.Nat.{◌*◌, ◌/◌}
 use native.Mathlib.Nat.{mul-le-mul}
 use native.Mathlib.Omega.{arith}
-use borrow.Author.Rules.{rules}
 use Rattle.ideal.specs.Decision.{cut_of}
 use Rattle.bounds.proofs.Places.{lawful, far, small, at_within, at_over}
 use Rattle.bounds.proofs.within_at.Goals as goal
 
 pub overflow_mul-x : goal.overflow_mul-x
-overflow_mul-x c = 
+overflow_mul-x c =
     let a = c.args in
     let p = c.requires in
     let law = lawful a.kind a.short a.s p.0 p.1 in
@@ -16,7 +15,7 @@ overflow_mul-x c =
     omega (arith, mul-le-mul (small (cut_of a.kind a.short a.s) law out a.p.grid a.p.at p.2 p.3).1 p.5)
 
 pub overflow_mul-y : goal.overflow_mul-y
-overflow_mul-y c = 
+overflow_mul-y c =
     let a = c.args in
     let p = c.requires in
     let law = lawful a.kind a.short a.s p.0 p.1 in
@@ -24,7 +23,7 @@ overflow_mul-y c =
     omega (arith, mul-le-mul p.4 (small (cut_of a.kind a.short a.s) law out a.p.grid a.p.at p.2 p.3).0)
 
 pub returns-then-x-y : goal.returns-then-x-y
-returns-then-x-y c = 
+returns-then-x-y c =
     let a = c.args in
     let p = c.requires in
     let law = lawful a.kind a.short a.s p.0 p.1 in
@@ -32,7 +31,7 @@ returns-then-x-y c =
     at_within (cut_of a.kind a.short a.s) law out a.p.grid a.p.at p.2 p.3 a.a a.b (20 * a.a / a.b) p.6 p.7 c.if-x-y.true
 
 pub returns-then-y-x : goal.returns-then-y-x
-returns-then-y-x c = 
+returns-then-y-x c =
     let a = c.args in
     let p = c.requires in
     let law = lawful a.kind a.short a.s p.0 p.1 in

@@ -1,6 +1,5 @@
 -- `capi::shell_choose_plate` meets its contract. Assumes nothing.
 use mathlib.Core.Path.{ap, ◌∙◌}
-use borrow.Author.Rules.{rules}
 use Rattle.plates.specs.Plates.{chosen_number}
 use Rattle.plates.proofs.Choices.{place_bounded}
 use Rattle.capi.proofs.shell_choose_plate.Goals as goal

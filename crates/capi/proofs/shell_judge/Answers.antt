@@ -1,6 +1,5 @@
 -- `capi::shell_judge` meets its contract. Assumes nothing.
 use mathlib.Core.Path.{ap, ◌∙◌}
-use borrow.Author.Rules.{rules}
 use Rattle.pressure.specs.declared.Order.TheVariants.{PressureFirst}
 use Rattle.answer.specs.Answers.{answer_number}
 use Rattle.record.specs.declared.Ring.TheVariants.{Stress}
@@ -9,7 +8,7 @@ use Rattle.record.proofs.Right.{right_bounded}
 use Rattle.capi.proofs.shell_judge.Goals as goal
 
 pub number-requires : goal.number-requires
-number-requires c = 
+number-requires c =
     let x = c.args in
     right_bounded PressureFirst (record_of x.r x.t x.l x.e x.fy x.edges x.a x.sx (Stress x.sphi) x.tau x.d) _ c.judge-given.ensures.right
 

@@ -1,6 +1,5 @@
 -- `capi::shell_judge_line` meets its contract. Assumes nothing.
 use mathlib.Core.Path.{ap, ◌∙◌}
-use borrow.Author.Rules.{rules}
 use Rattle.answer.specs.Answers.{answer_number}
 use Rattle.reading.proofs.Answers.{line_bounded}
 use Rattle.capi.proofs.shell_judge_line.Goals as goal

@@ -1,6 +1,5 @@
 -- `cases::has_ring` meets its contract. Assumes nothing.
-use mathlib.Core.Path.{sym, ap, ◌∙◌}
-use borrow.Author.Rules.{rules}
+use mathlib.Core.Path.{sym, ap}
 use Rattle.cases.specs.Answering.{has_ring}
 use Rattle.cases.proofs.has_ring.Goals as goal
 

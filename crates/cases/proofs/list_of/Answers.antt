@@ -1,9 +1,8 @@
 -- `cases::list_of` meets its contract. Assumes nothing.
 use mathlib.Core.Path.{◌≡◌, refl, sym, ap, ◌∙◌}
-use Prim.Native.Nat.{ℕ, ◌≤◌, ◌-◌}
+use Prim.Native.Nat.{ℕ}
 use native.Mathlib.Nat.{le_antisymm}
 use native.Mathlib.Omega.{arith}
-use borrow.Author.Rules.{rules}
 use lib.ListN.{length, length-set, take}
 use Rattle.cases.specs.Numbers.{first_from}
 use Rattle.cases.proofs.Fives.{count_fits, listed_next}
@@ -16,17 +15,17 @@ pub group_of-requires : goal.group_of-requires
 group_of-requires c = let f = count_fits (length c.args.numbers.now) in (omega (arith, c.count_of-count.ensures, f.0), omega (arith, c.count_of-count.ensures, f.1))
 
 pub offset_bounds-groups-i : goal.offset_bounds-groups-i
-offset_bounds-groups-i c = 
+offset_bounds-groups-i c =
     let f = count_fits (length c.args.numbers.now) in
     omega (arith, c.count_of-count.ensures, f.0)
 
 pub bounds-groups-i : goal.bounds-groups-i
-bounds-groups-i c = 
+bounds-groups-i c =
     let f = count_fits (length c.args.numbers.now) in
     omega (arith, c.count_of-count.ensures, f.0)
 
 pub overflow_add-i : goal.overflow_add-i
-overflow_add-i c = 
+overflow_add-i c =
     let f = count_fits (length c.args.numbers.now) in
     omega (arith, c.count_of-count.ensures, f.0)
 
@@ -34,7 +33,7 @@ pub loop-i-smaller : goal.loop-i-smaller
 loop-i-smaller c = omega arith
 
 pub loop-i-preserved : goal.loop-i-preserved
-loop-i-preserved c = 
+loop-i-preserved c =
     let f = count_fits (length c.args.numbers.now) in (
       omega arith,
       length-set c.loop-i.groups c.loop-i.i c.group_of.result ∙ c.loop-i.invariant.1,
@@ -42,7 +41,7 @@ loop-i-preserved c =
     )
 
 pub returns : goal.returns
-returns c = 
+returns c =
     let ns = c.args.numbers.now in
     let all : c.loop-i.i ≡ c.count_of-count.result = le_antisymm (omega arith) (omega arith) in
     record {

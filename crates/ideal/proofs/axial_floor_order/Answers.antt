@@ -1,5 +1,4 @@
 -- `ideal::axial_floor_order` meets its contract. Assumes nothing.
-use borrow.Author.Rules.{rules}
 use Rattle.ideal.proofs.Rows.{axial_floor_row}
 use Rattle.ideal.proofs.axial_floor_order.Goals as goal
 

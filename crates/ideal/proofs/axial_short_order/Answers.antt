@@ -1,5 +1,4 @@
 -- `ideal::axial_short_order` meets its contract. Assumes nothing.
-use borrow.Author.Rules.{rules}
 use Rattle.ideal.proofs.Rows.{axial_short_row}
 use Rattle.ideal.proofs.axial_short_order.Goals as goal
 

@@ -1,5 +1,4 @@
 -- `ideal::ring_long_order` meets its contract. Assumes nothing.
-use borrow.Author.Rules.{rules}
 use Rattle.ideal.proofs.Rows.{ring_long_row}
 use Rattle.ideal.proofs.ring_long_order.Goals as goal
 

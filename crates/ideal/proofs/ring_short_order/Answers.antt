@@ -1,5 +1,4 @@
 -- `ideal::ring_short_order` meets its contract. Assumes nothing.
-use borrow.Author.Rules.{rules}
 use Rattle.ideal.proofs.Rows.{ring_short_row}
 use Rattle.ideal.proofs.ring_short_order.Goals as goal
 

@@ -1,5 +1,4 @@
 -- `ideal::shear_long_order` meets its contract. Assumes nothing.
-use borrow.Author.Rules.{rules}
 use Rattle.ideal.proofs.Rows.{shear_long_row}
 use Rattle.ideal.proofs.shear_long_order.Goals as goal
 

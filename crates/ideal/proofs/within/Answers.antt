@@ -1,6 +1,5 @@
 -- `ideal::within` meets its contract. Assumes nothing.
 use mathlib.Core.Path.{◌∙◌}
-use borrow.Author.Rules.{rules}
 use Rattle.ideal.proofs.within.Goals as goal
 
 pub returns : goal.returns

@@ -1,6 +1,5 @@
 -- `millionths::reached` meets its contract. Assumes nothing.
 use mathlib.Core.Path.{◌∙◌, ap₂}
-use borrow.Author.Rules.{rules}
 use Rattle.millionths.specs.Reached.{reached_by}
 use Rattle.millionths.proofs.reached.Goals as goal
 
@@ -8,6 +7,6 @@ pub returns-then-s : goal.returns-then-s
 returns-then-s c = c.settled-s.ensures c.if-s.true _ _ c.bounds.ensures c.bounds-2.ensures
 
 pub returns : goal.returns
-returns c = 
+returns c =
     let a = c.args in
     c.exact.ensures ∙ ap₂ (reached_by a.power) c.scaled-n.ensures.is c.scaled-m.ensures.is

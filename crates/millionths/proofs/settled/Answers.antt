@@ -3,19 +3,18 @@ use mathlib.Core.Path.{refl, sym, ap, ◌∙◌}
 use native.Mathlib.Omega.{arith}
 use Rattle.algebra.proofs.Powers.{pow_two}
 use Rattle.interval.proofs.Bounds.{around_as}
-use borrow.Author.Rules.{rules}
 use Rattle.millionths.specs.declared.Power.{Power}
 use Rattle.millionths.specs.Reached.{reached_by}
 use Rattle.millionths.proofs.Largest.{thrice}
 use Rattle.millionths.proofs.settled.Goals as goal
 
 pub returns-in-FiveQuarters : goal.returns-in-FiveQuarters
-returns-in-FiveQuarters c says n m x y = 
+returns-in-FiveQuarters c says n m x y =
     let k = c.of-t.ensures in
     c.settled.ensures says _ _ (c.fifth-x5.ensures n x) (around_as _ (omega arith) (c.times-y5.ensures _ _ (c.fifth.ensures m y) (c.times.ensures _ _ k k)))
     ∙ ap (λ (p : Power). reached_by p n m) (sym c.in-FiveQuarters.is)
 
 pub returns-in-ThreeSquares : goal.returns-in-ThreeSquares
-returns-in-ThreeSquares c says n m x y = 
+returns-in-ThreeSquares c says n m x y =
     c.settled-in-ThreeSquares.ensures says _ _ (around_as _ (sym (pow_two n)) (c.times-x2.ensures n n x x)) (around_as _ (thrice refl (sym (pow_two m))) (c.times-y2.ensures _ _ (c.times-in-ThreeSquares.ensures m m y y) c.of.ensures))
     ∙ ap (λ (p : Power). reached_by p n m) (sym c.in-ThreeSquares.is)

@@ -1,12 +1,7 @@
 use mathlib.Core.Path.{◌≡◌}
-use mathlib.Core.Logic.{⊎_elim}
 use Prim.Native.Nat.{◌+◌, ◌-◌, ◌≤◌}
-use native.Mathlib.Omega.{arith}
-use borrow.Author.Rules.{rules}
-use borrow.Author.Tests.{eq-eqb, ne_eqb}
 use lib.ListN.{length, drop}
 use Rattle.outcome.specs.Newlines.{newlines}
-use Rattle.outcome.proofs.Newlines.{newline_there, no_newline_there, newlines_none}
 use Rattle.outcome.proofs.count_newlines.Given as goal
 
 abbrev pub invariant-loop-i : goal.invariant-loop-i

@@ -1,10 +1,8 @@
 -- `reading::groups_at` meets its contract. The loop's invariant: what is stored so far stands one after the other from `at` to `next`.
 -- Assumes nothing.
 use mathlib.Core.Path.{refl, ap}
-use Prim.Native.Nat.{◌-◌}
 use native.Mathlib.Omega.{arith}
-use borrow.Author.Rules.{rules}
-use Rattle.format.proofs.Places.{finds, fails, Stored, stored_none, stored_more, stored_end}
+use Rattle.format.proofs.Places.{finds, fails, stored_none, stored_more, stored_end}
 use Rattle.reading.specs.Reading.{group, groups}
 use Rattle.reading.specs.Parts.{group_part}
 use Rattle.reading.proofs.groups_at.Goals as goal

@@ -1,10 +1,6 @@
-use mathlib.Core.Path.{refl, ap}
 use Prim.Native.Nat.{◌-◌}
-use native.Mathlib.Omega.{arith}
-use borrow.Author.Rules.{rules}
-use Rattle.format.proofs.Places.{finds, fails, Stored, stored_none, stored_more, stored_end}
-use Rattle.reading.specs.Reading.{group, groups}
-use Rattle.reading.specs.Parts.{group_part}
+use Rattle.format.proofs.Places.{Stored}
+use Rattle.reading.specs.Reading.{group}
 use Rattle.reading.proofs.groups_at.Given as goal
 
 abbrev pub invariant-loop-count : goal.invariant-loop-count

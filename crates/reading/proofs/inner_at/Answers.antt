@@ -1,5 +1,4 @@
 -- `reading::inner_at` meets its contract. Assumes nothing.
-use borrow.Author.Rules.{rules}
 use Rattle.record.specs.declared.Inner.TheVariants as Inner
 use Rattle.format.specs.Places.{reads, refuses}
 use Rattle.format.proofs.Places.{number_finds, number_fails, finds_given, finds_missing, fails_past}

@@ -1,5 +1,4 @@
 -- `reading::pressure_at` meets its contract. Assumes nothing.
-use borrow.Author.Rules.{rules}
 use Rattle.format.specs.Places.{reads, refuses}
 use Rattle.format.proofs.Places.{number_finds, number_fails, fixed_finds, fixed_fails, finds_closed, fails_closed, fails_end}
 use Rattle.reading.specs.Reading.{pressure}

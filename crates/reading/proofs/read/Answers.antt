@@ -10,7 +10,6 @@ use Rattle.cases.specs.declared.Cases.{Cases}
 use Rattle.cases.specs.Answering.{Counted}
 use Rattle.reading.specs.Reading.{Read, Refused, wall_in, cases_in, line, form_of}
 use Rattle.reading.specs.Parts.{wall_part, inner_part, form_in}
-use borrow.Author.Rules.{rules}
 use Rattle.reading.proofs.read.Goals as goal
 
 -- refused by 5
@@ -20,7 +19,6 @@ turned n c l e f = (ap (λ (x : ℕ). form_in x c) e ∙ f, λ z. absurd (omega 
 pub returns-in_default : goal.returns-in_default
 unfolding form_of line
 returns-in_default c =
-    
     let f = turned _ _ _ c.refused.ensures
     (whole_nothing (λ p. Read (cases_in p)) (Refused 5)
     (fails_first _ (fails_start _ _ (fixed_fails c.fixed_at.ensures c.in_default.is)))) in
@@ -29,7 +27,6 @@ returns-in_default c =
 pub returns-in_default-wall_at : goal.returns-in_default-wall_at
 unfolding form_of line
 returns-in_default-wall_at c =
-    
     let f = turned _ _ _ c.refused-in_default-wall_at.ensures
     (whole_nothing (λ p. Read (cases_in p)) (Refused 5)
     (fails_first _ (fails_before _ (fixed_finds c.fixed_at.ensures c.in-Read.is) (fails_meant wall_in (fails c.wall_at.ensures (ap wall_part c.in_default-wall_at.is)))))) in
@@ -37,7 +34,7 @@ returns-in_default-wall_at c =
 
 pub returns-then-count-eq0 : goal.returns-then-count-eq0
 unfolding form_of line
-returns-then-count-eq0 c = 
+returns-then-count-eq0 c =
     let r = c.groups_at-found.result in
     let (p, (is, shows)) = finds_meant wall_in (finds c.wall_at.ensures (ap wall_part c.in-Read-wall_at.is)) in
     let f = turned _ _ _ c.refused-then-count-eq0.ensures
@@ -48,7 +45,7 @@ returns-then-count-eq0 c =
 
 pub returns-in_default-inner_at : goal.returns-in_default-inner_at
 unfolding form_of line
-returns-in_default-inner_at c = 
+returns-in_default-inner_at c =
     let r = c.groups_at-found.result in
     let (p, (is, shows)) = finds_meant wall_in (finds c.wall_at.ensures (ap wall_part c.in-Read-wall_at.is)) in
     let f = turned _ _ _ c.refused-in_default-inner_at.ensures
@@ -59,7 +56,7 @@ returns-in_default-inner_at c =
 
 pub returns-in_default-fixed_at : goal.returns-in_default-fixed_at
 unfolding form_of line
-returns-in_default-fixed_at c = 
+returns-in_default-fixed_at c =
     let r = c.groups_at-found.result in
     let (p, (is, shows)) = finds_meant wall_in (finds c.wall_at.ensures (ap wall_part c.in-Read-wall_at.is)) in
     let f = turned _ _ _ c.refused-in_default-fixed_at.ensures
@@ -70,7 +67,7 @@ returns-in_default-fixed_at c =
 
 pub returns-then-at-line : goal.returns-then-at-line
 unfolding form_of line
-returns-then-at-line c = 
+returns-then-at-line c =
     let r = c.groups_at-found.result in
     let (p, (is, shows)) = finds_meant wall_in (finds c.wall_at.ensures (ap wall_part c.in-Read-wall_at.is)) in
     let f = turned _ _ _ c.refused-then-at-line.ensures
@@ -82,10 +79,13 @@ returns-then-at-line c =
 
 pub returns : goal.returns
 unfolding form_of line
-returns c = 
+returns c =
     let r = c.groups_at-found.result in
-    let (p, (is, shows)) = finds_meant wall_in (finds c.wall_at.ensures (ap wall_part c.in-Read-wall_at.is)) in record { cases_value = ap (λ (w : Wall). Read (record { wall = w; groups = take r.count r.groups; inner = c.in-Read-inner_at.inner })) (sym is)
+    let (p, (is, shows)) = finds_meant wall_in (finds c.wall_at.ensures (ap wall_part c.in-Read-wall_at.is)) in record {
+      cases_value = ap (λ (w : Wall). Read (record { wall = w; groups = take r.count r.groups; inner = c.in-Read-inner_at.inner })) (sym is)
           ∙ whole_found (λ p. Read (cases_in p)) (Refused 5)
           (finds_sequence (finds_before _ (fixed_finds c.fixed_at.ensures c.in-Read.is) shows)
           (finds_closed _ (finds_sequence (stored_finds r.groups r.count r.next c.groups_at-found.ensures.answers c.if-count-eq0.false) (finds c.inner_at.ensures (ap inner_part c.in-Read-inner_at.is))) (fixed_finds c.fixed_at-2.ensures c.in-Read-fixed_at.is)))
-          c.if-at-line.false; counted = λ _. record { some = omega (arith, c.if-count-eq0.false); most = c.groups_at-found.ensures.count_bound.0; size = c.groups_at-found.ensures.count_bound.1 } }
+          c.if-at-line.false;
+      counted = λ _. record { some = omega (arith, c.if-count-eq0.false); most = c.groups_at-found.ensures.count_bound.0; size = c.groups_at-found.ensures.count_bound.1 };
+    }

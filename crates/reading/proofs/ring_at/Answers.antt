@@ -1,4 +1,3 @@
-use borrow.Author.Rules.{rules}
 use Rattle.record.specs.declared.Ring.TheVariants.{Stress}
 use Rattle.format.specs.Places.{reads}
 use Rattle.format.proofs.Places.{number_finds, number_fails, finds_one, answers_other}

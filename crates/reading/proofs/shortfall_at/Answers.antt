@@ -1,4 +1,3 @@
-use borrow.Author.Rules.{rules}
 use Rattle.word.specs.declared.Numeral.TheVariants.{Value, Missing}
 use Rattle.format.specs.Places.{reads, refuses}
 use Rattle.format.proofs.Places.{number_finds, number_fails, finds_changed, finds_given, finds_missing, fails_past}

@@ -1,4 +1,3 @@
-use borrow.Author.Rules.{rules}
 use mathlib.Core.Path.{◌≡◌, subst}
 use Prim.Native.Nat.{ℕ}
 use mathlib.Core.List.{List}
@@ -20,20 +19,20 @@ wall_found {s} {at} {next} {r} {t} {l} {E} {fy} {edges} {a} {d} {n} is of =
 
 pub returns-in_default : goal.returns-in_default
 unfolding shown
-returns-in_default c = 
+returns-in_default c =
     refuses (fails_changed _
     (fails_first _ (number_fails c.number_at.ensures c.in_default.is)))
 
 pub returns-in_default-spaced_at : goal.returns-in_default-spaced_at
 unfolding shown
-returns-in_default-spaced_at c = 
+returns-in_default-spaced_at c =
     refuses (fails_changed _
     (fails_second (number_finds c.number_at.ensures c.in-Read.is)
     (fails_first _ (number_fails c.spaced_at.ensures c.in_default-spaced_at.is))))
 
 pub returns-in_default-spaced_at-2 : goal.returns-in_default-spaced_at-2
 unfolding shown
-returns-in_default-spaced_at-2 c = 
+returns-in_default-spaced_at-2 c =
     refuses (fails_changed _
     (fails_second (number_finds c.number_at.ensures c.in-Read.is)
     (fails_second (number_finds c.spaced_at.ensures c.in-Read-spaced_at.is)
@@ -41,7 +40,7 @@ returns-in_default-spaced_at-2 c =
 
 pub returns-in_default-spaced_at-3 : goal.returns-in_default-spaced_at-3
 unfolding shown
-returns-in_default-spaced_at-3 c = 
+returns-in_default-spaced_at-3 c =
     refuses (fails_changed _
     (fails_second (number_finds c.number_at.ensures c.in-Read.is)
     (fails_second (number_finds c.spaced_at.ensures c.in-Read-spaced_at.is)
@@ -50,7 +49,7 @@ returns-in_default-spaced_at-3 c =
 
 pub returns-in_default-spaced_at-4 : goal.returns-in_default-spaced_at-4
 unfolding shown
-returns-in_default-spaced_at-4 c = 
+returns-in_default-spaced_at-4 c =
     refuses (fails_changed _
     (fails_second (number_finds c.number_at.ensures c.in-Read.is)
     (fails_second (number_finds c.spaced_at.ensures c.in-Read-spaced_at.is)
@@ -60,7 +59,7 @@ returns-in_default-spaced_at-4 c =
 
 pub returns-in_default-spaced_at-5 : goal.returns-in_default-spaced_at-5
 unfolding shown
-returns-in_default-spaced_at-5 c = 
+returns-in_default-spaced_at-5 c =
     refuses (fails_changed _
     (fails_second (number_finds c.number_at.ensures c.in-Read.is)
     (fails_second (number_finds c.spaced_at.ensures c.in-Read-spaced_at.is)
@@ -71,7 +70,7 @@ returns-in_default-spaced_at-5 c =
 
 pub returns-in_default-spaced_at-6 : goal.returns-in_default-spaced_at-6
 unfolding shown
-returns-in_default-spaced_at-6 c = 
+returns-in_default-spaced_at-6 c =
     refuses (fails_changed _
     (fails_second (number_finds c.number_at.ensures c.in-Read.is)
     (fails_second (number_finds c.spaced_at.ensures c.in-Read-spaced_at.is)
@@ -83,7 +82,7 @@ returns-in_default-spaced_at-6 c =
 
 pub returns-in_default-shortfall_at : goal.returns-in_default-shortfall_at
 unfolding shown
-returns-in_default-shortfall_at c = 
+returns-in_default-shortfall_at c =
     refuses (fails_changed _
     (fails_second (number_finds c.number_at.ensures c.in-Read.is)
     (fails_second (number_finds c.spaced_at.ensures c.in-Read-spaced_at.is)
@@ -96,7 +95,7 @@ returns-in_default-shortfall_at c =
 
 pub returns : goal.returns
 unfolding shown
-returns c = 
+returns c =
     let (d, (is, last)) = finds_meant or_zero (number_finds c.shortfall_at.ensures c.in-Read-shortfall_at.is) in
     wall_found is
     (finds_sequence (number_finds c.number_at.ensures c.in-Read.is)

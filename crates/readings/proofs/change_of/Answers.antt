@@ -1,9 +1,6 @@
 -- `readings::change_of` meets its contract. Assumes nothing.
-use mathlib.Core.Path.{◌≡◌, refl, sym, ap, ◌∙◌}
-use mathlib.Core.Bool.{true, false}
-use Prim.Native.Nat.{ℕ}
+use mathlib.Core.Path.{◌≡◌, sym, ◌∙◌}
 use lib.Dec.{eqb}
-use borrow.Author.Rules.{rules}
 use borrow.Author.Tests.{eq-eqb, ne_eqb}
 use Rattle.text.proofs.Laws.{pick_on, pick_off}
 use Rattle.algebra.specs.Choice.{pick}
@@ -11,7 +8,6 @@ use Rattle.answer.specs.declared.Judgement.{Judgement}
 use Rattle.answer.specs.declared.Answer.{Answer}
 use Rattle.answer.specs.declared.Answer.TheVariants.{Judged}
 use Rattle.answer.specs.Answers.{verdict_number}
-use Rattle.readings.specs.declared.Change.{Change}
 use Rattle.readings.specs.declared.Change.TheVariants.{Alike, Apart}
 use Rattle.readings.specs.Readings.{change_of}
 use Rattle.readings.proofs.change_of.Goals as goal

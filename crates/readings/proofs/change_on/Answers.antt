@@ -1,6 +1,5 @@
 -- `readings::change_on` meets its contract. Assumes nothing.
 use mathlib.Core.Path.{◌∙◌}
-use borrow.Author.Rules.{rules}
 use Rattle.readings.specs.Readings.{change_of}
 use Rattle.readings.proofs.change_on.Goals as goal
 

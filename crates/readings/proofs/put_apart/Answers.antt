@@ -1,15 +1,6 @@
 -- `readings::put_apart` meets its contract. Assumes nothing.
-use mathlib.Core.Path.{◌≡◌, refl, sym, ap, ◌∙◌, subst}
-use mathlib.Core.List.{List, ◌++◌}
-use Prim.Native.Nat.{ℕ}
 use native.Mathlib.Omega.{arith}
-use borrow.Author.Rules.{rules}
-use Rattle.text.specs.Bytes.{ascii, decimal}
-use Rattle.text.proofs.Laws.{Wrote, wrote_then}
-use Rattle.listing.specs.Listing.{verdict_word}
-use Rattle.answer.specs.declared.Verdict.{Verdict}
-use Rattle.readings.specs.declared.Change.TheVariants.{Apart}
-use Rattle.readings.specs.Readings.{row}
+use Rattle.text.proofs.Laws.{wrote_then}
 use Rattle.readings.proofs.Laws.{apart_length, apart_parts}
 use Rattle.readings.proofs.put_apart.Goals as goal
 
@@ -35,7 +26,7 @@ pub put_bytes-requires : goal.put_bytes-requires
 put_bytes-requires c = omega (arith, apart_length c.args.k c.args.old c.args.new, c.requires)
 
 pub returns : goal.returns
-returns c = 
+returns c =
     let w2 = wrote_then _ _ _ _ _ _ _ _ c.put_bytes-b.ensures c.put_number-c.ensures in
     let w3 = wrote_then _ _ _ _ _ _ _ _ w2 c.put_bytes-d.ensures in
     let w4 = wrote_then _ _ _ _ _ _ _ _ w3 c.put_word-e.ensures in

@@ -1,12 +1,10 @@
 -- `readings::put_rows` meets its contract. Assumes nothing.
-use mathlib.Core.Path.{◌≡◌, ap, ◌∙◌}
+use mathlib.Core.Path.{ap, ◌∙◌}
 use native.Mathlib.Nat.{zero-add}
 use native.Mathlib.Omega.{arith}
 use lib.ListN.{length}
-use borrow.Author.Rules.{rules}
-use Rattle.text.specs.Bytes.{lines}
 use Rattle.text.proofs.Laws.{rest_less, lines_le}
-use Rattle.readings.proofs.Laws.{Here, here_first, here_room, here_count, here_turn, here_end}
+use Rattle.readings.proofs.Laws.{here_first, here_room, here_count, here_turn, here_end}
 use Rattle.readings.proofs.put_rows.Goals as goal
 
 pub loop-rest-init : goal.loop-rest-init
@@ -16,7 +14,7 @@ pub put_row-at-requires : goal.put_row-at-requires
 put_row-at-requires c = here_room _ _ _ _ _ _ c.loop-rest.invariant c.loop-rest-test.true _ c.first_line-line.ensures _ c.change_on-c.ensures c.requires.1
 
 pub overflow_add-k : goal.overflow_add-k
-overflow_add-k c = 
+overflow_add-k c =
     let few = here_count _ _ _ _ _ _ c.loop-rest.invariant c.loop-rest-test.true _ c.first_line-line.ensures _ c.change_on-c.ensures (omega (arith, lines_le c.args.sheet.now, c.requires.0)) in
     omega (arith, few)
 

@@ -1,11 +1,5 @@
-use mathlib.Core.Path.{◌≡◌, ap, ◌∙◌}
-use native.Mathlib.Nat.{zero-add}
-use native.Mathlib.Omega.{arith}
 use lib.ListN.{length}
-use borrow.Author.Rules.{rules}
-use Rattle.text.specs.Bytes.{lines}
-use Rattle.text.proofs.Laws.{rest_less, lines_le}
-use Rattle.readings.proofs.Laws.{Here, here_first, here_room, here_count, here_turn, here_end}
+use Rattle.readings.proofs.Laws.{Here}
 use Rattle.readings.proofs.put_rows.Given as goal
 
 abbrev pub invariant-loop-rest : goal.invariant-loop-rest

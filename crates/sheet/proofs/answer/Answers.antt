@@ -1,5 +1,4 @@
 -- `sheet::answer` meets its contract. Assumes nothing.
-use borrow.Author.Rules.{rules}
 use native.Mathlib.Nat.{le_antisymm}
 use native.Mathlib.Omega.{arith}
 use Rattle.reading.proofs.Answers.{answer_long, answer_refused, answer_cases, right_of}

@@ -1,4 +1,3 @@
-use borrow.Author.Rules.{rules}
 use native.Mathlib.Omega.{arith}
 use Prim.Native.Nat.{ℕ}
 use mathlib.Core.Path.{◌≡◌, refl, sym, ap, ◌∙◌}
@@ -7,9 +6,9 @@ use lib.ListN.{length, length-map}
 use Rattle.text.specs.Bytes.{is_newline, lines}
 use Rattle.text.specs.Slices.{after}
 use Rattle.text.proofs.Laws.{rest_less, lines_le}
-use Rattle.listing.proofs.Turns.{Here, here_first, here_room, here_turn, here_within, here_counts, here_total, here_listing}
+use Rattle.listing.proofs.Turns.{here_first, here_room, here_turn, here_within, here_counts, here_total, here_listing}
 use Rattle.outcome.specs.Sheet.{listing_by}
-use Rattle.outcome.specs.Running.{ruled, answers, listing}
+use Rattle.outcome.specs.Running.{ruled, answers}
 use Rattle.outcome.proofs.Laws.{answers_next, answers_none, listed}
 use Rattle.sheet.proofs.put_listing.Goals as goal
 
@@ -17,7 +16,7 @@ pub loop-rest-init : goal.loop-rest-init
 loop-rest-init c = here_first _ _ _ c.none-counts.ensures
 
 pub with-counts-requires : goal.with-counts-requires
-with-counts-requires c = 
+with-counts-requires c =
     let sheet = c.args.sheet.now in
     let w = here_within _ _ _ _ _ _ c.loop-rest.invariant in
     omega (arith, lines_le sheet, length-map (lines sheet) ruled, c.requires.0)
@@ -36,7 +35,6 @@ loop-rest-smaller c = rest_less _ _ c.after_first-next.ensures c.loop-rest-test.
 
 pub loop-rest-preserved : goal.loop-rest-preserved
 loop-rest-preserved c =
-    
     let told : answers c.loop-rest.rest.now ≡ c.answer-a.result ∷ answers (after is_newline c.loop-rest.rest.now) = answers_next _ _ _ _ c.loop-rest-test.true c.first_line-line.ensures c.answer-a.ensures.value refl in
     here_turn _ _ _ _ _ _ _ _ c.loop-rest.invariant (told ∙ ap (λ (l : List ℕ). c.answer-a.result ∷ answers l) (sym c.after_first-next.ensures)) _ c.with-counts.ensures _ _ c.put_entry-at.ensures
 
@@ -49,7 +47,7 @@ shape_of-out c = c.put_total-length.auto.out ∙ c.loop-rest.invariant.same
 
 pub returns : goal.returns
 unfolding listing_by
-returns c = 
+returns c =
     let i = c.loop-rest.invariant in
     let done = answers_none _ c.loop-rest-test.false in
     let w = here_listing _ _ _ _ _ _ i done _ _ c.put_total-length.ensures in record { value = listed _ _ _ _ _ (here_counts _ _ _ _ _ _ i done) w; out_after = w.out_after }

@@ -1,5 +1,4 @@
 -- `sheet::run` meets its contract. Assumes nothing.
-use borrow.Author.Rules.{rules}
 use Rattle.outcome.proofs.Laws.{outcome_turned, outcome_accepted, outcome_fits, outcome_listed}
 use Rattle.outcome.proofs.Demand3.{demand_of}
 use Rattle.sheet.proofs.run.Goals as goal
@@ -8,7 +7,7 @@ pub returns-then-n-gt0 : goal.returns-then-n-gt0
 returns-then-n-gt0 c = let e = outcome_turned _ _ _ c.refusal-n.ensures c.if-n-gt0.true _ c.turned_back.ensures in record { demand3 = demand_of _ _ _ _ e; fact = e }
 
 pub put_listing-requires : goal.put_listing-requires
-put_listing-requires c = 
+put_listing-requires c =
     let e = c.refusal-n.ensures in
     let a = c.args in
     ((outcome_accepted a.sheet.now a.out.now _ e c.if-n-gt0.false).short, outcome_fits a.sheet.now a.out.now _ e c.if-n-gt0.false)

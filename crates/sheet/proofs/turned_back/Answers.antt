@@ -1,5 +1,3 @@
-use borrow.Author.Rules.{rules}
-use mathlib.Core.Path.{ap}
 use Rattle.outcome.proofs.Laws.{turned_back_lem}
 use Rattle.sheet.proofs.turned_back.Goals as goal
 

@@ -1,6 +1,5 @@
 -- `slenderness_grid::axial_floor_highest` meets its contract. Assumes nothing.
 use mathlib.Core.Path.{refl}
-use borrow.Author.Rules.{rules}
 use Rattle.slenderness_grid.proofs.Rows.{axial_floor_row}
 use Rattle.slenderness_grid.proofs.axial_floor_highest.Goals as goal
 

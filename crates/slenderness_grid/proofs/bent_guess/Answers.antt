@@ -1,7 +1,6 @@
 -- `slenderness_grid::bent_guess` meets its contract. Assumes nothing.
 use mathlib.Core.Path.{ap, ◌∙◌}
 use Prim.Native.Nat.{◌*◌}
-use borrow.Author.Rules.{rules}
 use Rattle.interval.specs.declared.Interval.{Interval}
 use Rattle.guess.specs.declared.Degree.TheVariants.{Two}
 use Rattle.guess.specs.Guess.{guess_from}
@@ -9,7 +8,7 @@ use Rattle.interval_root.specs.Leading.{leading_of}
 use Rattle.slenderness_grid.proofs.bent_guess.Goals as goal
 
 pub returns : goal.returns
-returns c = 
+returns c =
     let r = c.rough_root-root in
     record {
       root = r.result;

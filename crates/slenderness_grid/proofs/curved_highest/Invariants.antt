@@ -1,11 +1,6 @@
-use mathlib.Core.Path.{sym, ◌∙◌}
-use mathlib.Core.Logic.{⊎_elim}
-use Prim.Native.Nat.{◌+◌, ◌-◌, ◌<◌}
-use native.Mathlib.Omega.{arith}
-use borrow.Author.Rules.{rules}
+use Prim.Native.Nat.{◌-◌, ◌<◌}
 use Rattle.slenderness_grid.specs.Highest.{curved_of}
-use Rattle.slenderness_grid.proofs.Searches.{Between, start, raised, lowered, found}
-use Rattle.slenderness_grid.proofs.Curved.{curved_lawful}
+use Rattle.slenderness_grid.proofs.Searches.{Between}
 use Rattle.slenderness_grid.proofs.curved_highest.Given as goal
 
 abbrev pub invariant-loop-lo : goal.invariant-loop-lo

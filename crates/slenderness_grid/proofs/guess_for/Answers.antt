@@ -1,5 +1,4 @@
 -- `slenderness_grid::guess_for` meets its contract. Assumes nothing.
-use borrow.Author.Rules.{rules}
 use Rattle.slenderness_grid.proofs.guess_for.Goals as goal
 
 pub returns-then-short : goal.returns-then-short

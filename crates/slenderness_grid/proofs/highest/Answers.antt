@@ -1,6 +1,5 @@
 -- `slenderness_grid::highest` meets its contract. Assumes nothing.
 use mathlib.Core.Bool.{true, false}
-use borrow.Author.Rules.{rules}
 use Rattle.cylinder.specs.declared.Stress.TheVariants.{Axial, Ring, Shear}
 use Rattle.slenderness_grid.proofs.Searches.{highest_at}
 use Rattle.slenderness_grid.proofs.highest.Goals as goal

@@ -1,6 +1,4 @@
 -- `slenderness_grid::lifted` meets its contract. Assumes nothing.
-use mathlib.Core.Path.{refl}
-use borrow.Author.Rules.{rules}
 use borrow.Author.Tests.{lt-ltb, le-ltb}
 use Rattle.slenderness_grid.specs.Guessed.{lifted_of}
 use Rattle.slenderness_grid.proofs.lifted.Goals as goal

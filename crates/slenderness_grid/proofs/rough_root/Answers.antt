@@ -1,6 +1,5 @@
 -- `slenderness_grid::rough_root` meets its contract. Assumes nothing.
 use mathlib.Core.Path.{ap, ◌∙◌}
-use borrow.Author.Rules.{rules}
 use Rattle.interval.specs.declared.Interval.{Interval}
 use Rattle.guess.specs.declared.Degree.TheVariants.{Two}
 use Rattle.guess.specs.Guess.{guess_from}
@@ -9,7 +8,7 @@ use Rattle.slenderness_grid.specs.Guessed.{lifted_of}
 use Rattle.slenderness_grid.proofs.rough_root.Goals as goal
 
 pub returns : goal.returns
-returns c = 
+returns c =
     record {
       a = c.of-a.result;
       b = c.of-b.result;

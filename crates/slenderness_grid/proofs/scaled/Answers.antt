@@ -1,5 +1,4 @@
 -- `slenderness_grid::scaled` meets its contract. Assumes nothing.
-use borrow.Author.Rules.{rules}
 use Rattle.slenderness_grid.proofs.scaled.Goals as goal
 
 pub returns : goal.returns

@@ -2,8 +2,6 @@
 use mathlib.Core.Path.{◌∙◌}
 use Prim.Native.Nat.{◌*◌, ◌^◌}
 use native.Mathlib.Omega.{arith}
-use borrow.Author.Rules.{rules}
-use Rattle.wide.specs.Value.{base}
 use Rattle.wide.proofs.Carry.{square_fits}
 use Rattle.interval.specs.Around.{Lies}
 use Rattle.slenderness_grid.proofs.Seen.{shear_up, shear_rest, shear_reached, shear_missed}

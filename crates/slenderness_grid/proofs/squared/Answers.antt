@@ -1,5 +1,4 @@
 -- `slenderness_grid::squared` meets its contract. Assumes nothing.
-use borrow.Author.Rules.{rules}
 use Rattle.interval.proofs.Bounds.{around_as}
 use Rattle.slenderness_grid.proofs.Seen.{square_times}
 use Rattle.slenderness_grid.proofs.squared.Goals as goal

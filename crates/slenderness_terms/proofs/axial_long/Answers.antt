@@ -1,7 +1,6 @@
 -- `slenderness_terms::axial_long` meets its contract. Assumes nothing.
 use Rattle.cylinder.specs.WholeIdeal.{eta}
 use native.Mathlib.Omega.{arith}
-use borrow.Author.Rules.{rules}
 use Rattle.interval.proofs.Bounds.{around_as}
 use Rattle.slenderness_terms.proofs.Words.{edges_newr, edges_nf, edges_nfr, edges_nfrr, edges_nr, most_ew, most_ewl, most_ewr, bent_d}
 use Rattle.slenderness_terms.proofs.axial_long.Goals as goal
@@ -28,7 +27,7 @@ pub overflow_mul-e-2 : goal.overflow_mul-e-2
 overflow_mul-e-2 c = omega (arith, most_ewl c.args.s c.requires)
 
 pub returns : goal.returns
-returns c = 
+returns c =
     let s = c.args.s in
     let e = c.eta-n.ensures.0 in
     record {

@@ -1,6 +1,5 @@
 -- `slenderness_terms::axial_short` meets its contract. Assumes nothing.
 use native.Mathlib.Omega.{arith}
-use borrow.Author.Rules.{rules}
 use Rattle.interval.proofs.Bounds.{around_as}
 use Rattle.slenderness_terms.proofs.Words.{most_ew, most_ll, most_rf, most_rw, axial_short_x_lem, axial_short_y_lem}
 use Rattle.slenderness_terms.proofs.axial_short.Goals as goal
@@ -24,7 +23,7 @@ pub overflow_mul-n : goal.overflow_mul-n
 overflow_mul-n c = omega (arith, most_ll c.args.s c.requires)
 
 pub returns : goal.returns
-returns c = 
+returns c =
     let s = c.args.s in
     record {
       for_c = rw c.plain.ensures.0 (around_as _ (axial_short_x_lem s.modulus s.wall s.radius s.length) c.both.ensures);

@@ -1,5 +1,4 @@
 -- `slenderness_terms::both` meets its contract. Assumes nothing.
-use borrow.Author.Rules.{rules}
 use Rattle.slenderness_terms.proofs.both.Goals as goal
 
 pub returns : goal.returns

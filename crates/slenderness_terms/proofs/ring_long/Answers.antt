@@ -1,7 +1,6 @@
 -- `slenderness_terms::ring_long` meets its contract. Assumes nothing.
 use Rattle.cylinder.specs.WholeIdeal.{ring_edges}
 use native.Mathlib.Omega.{arith}
-use borrow.Author.Rules.{rules}
 use Rattle.interval.proofs.Bounds.{around_as}
 use Rattle.slenderness_terms.proofs.Words.{edges_en, edges_enn, edges_ennn, edges_ennnn, most_ew, most_eww, most_fr, most_frr, most_ll, most_rr, most_rrr, ring_long_x_lem, ring_long_y_lem}
 use Rattle.slenderness_terms.proofs.ring_long.Goals as goal
@@ -40,7 +39,7 @@ pub overflow_mul-h-3 : goal.overflow_mul-h-3
 overflow_mul-h-3 c = omega (arith, most_frr c.args.s c.requires)
 
 pub returns : goal.returns
-returns c = 
+returns c =
     let s = c.args.s in
     let e = c.ring_edges-c.ensures.0 in
     record {

@@ -1,7 +1,6 @@
 -- `slenderness_terms::ring_short` meets its contract. Assumes nothing.
 use Rattle.cylinder.specs.WholeIdeal.{ring_edges}
 use native.Mathlib.Omega.{arith}
-use borrow.Author.Rules.{rules}
 use Rattle.interval.proofs.Bounds.{around_as}
 use Rattle.slenderness_terms.proofs.Words.{edges_ne, edges_new, edges_neww, most_lf, most_lfr, ring_short_x_lem, ring_short_y_lem}
 use Rattle.slenderness_terms.proofs.ring_short.Goals as goal
@@ -25,7 +24,7 @@ pub overflow_mul-o : goal.overflow_mul-o
 overflow_mul-o c = omega (arith, most_lfr c.args.s c.requires)
 
 pub returns : goal.returns
-returns c = 
+returns c =
     let s = c.args.s in
     let e = c.ring_edges-c.ensures.0 in
     record {

@@ -1,6 +1,5 @@
 -- `slenderness_terms::shear_long` meets its contract. Assumes nothing.
 use native.Mathlib.Omega.{arith}
-use borrow.Author.Rules.{rules}
 use Rattle.interval.proofs.Bounds.{around_as}
 use Rattle.slenderness_terms.proofs.Words.{most_ee, most_ff, most_rr, most_rrr, most_ww, most_www, shear_long_x_lem, shear_long_y_lem}
 use Rattle.slenderness_terms.proofs.shear_long.Goals as goal
@@ -24,7 +23,7 @@ pub overflow_mul-g-2 : goal.overflow_mul-g-2
 overflow_mul-g-2 c = omega (arith, most_rrr c.args.s c.requires)
 
 pub returns : goal.returns
-returns c = 
+returns c =
     let s = c.args.s in
     record {
       for_c = rw c.plain.ensures.0 (around_as _ (shear_long_x_lem s.modulus s.wall) c.both.ensures);

@@ -1,6 +1,5 @@
 -- `slenderness_terms::shear_short` meets its contract. Assumes nothing.
 use native.Mathlib.Omega.{arith}
-use borrow.Author.Rules.{rules}
 use Rattle.interval.proofs.Bounds.{around_as}
 use Rattle.slenderness_terms.proofs.Words.{most_ee, most_eer, most_ll, most_llf, most_llff, most_lll, most_ww, most_www, most_wwww, shear_c, shear_d, shear_e}
 use Rattle.slenderness_terms.proofs.shear_short.Goals as goal
@@ -45,7 +44,7 @@ pub overflow_mul-k : goal.overflow_mul-k
 overflow_mul-k c = omega (arith, most_ww c.args.s c.requires)
 
 pub returns : goal.returns
-returns c = 
+returns c =
     let s = c.args.s in
     record {
       for_c = around_as _ (shear_c s.modulus s.wall s.radius) c.both.ensures;

@@ -1,5 +1,4 @@
 -- `slenderness_terms::terms_for` meets its contract. Assumes nothing.
-use borrow.Author.Rules.{rules}
 use Rattle.slenderness_terms.proofs.terms_for.Goals as goal
 
 pub returns-then-short : goal.returns-then-short

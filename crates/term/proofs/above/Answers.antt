@@ -1,5 +1,4 @@
 -- `term::above` meets its contract. Assumes nothing.
-use borrow.Author.Rules.{rules}
 use Rattle.term.proofs.above.Goals as goal
 
 pub returns-in-Axial : goal.returns-in-Axial

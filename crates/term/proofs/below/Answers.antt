@@ -1,5 +1,4 @@
 -- `term::below` meets its contract. Assumes nothing.
-use borrow.Author.Rules.{rules}
 use Rattle.term.proofs.below.Goals as goal
 
 pub returns-in-Axial : goal.returns-in-Axial

@@ -1,5 +1,4 @@
 -- `term::first_above` meets its contract. Assumes nothing.
-use borrow.Author.Rules.{rules}
 use Rattle.term.proofs.Products.{three}
 use Rattle.term.proofs.first_above.Goals as goal
 

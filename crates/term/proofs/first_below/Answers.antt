@@ -1,5 +1,4 @@
 -- `term::first_below` meets its contract. Assumes nothing.
-use borrow.Author.Rules.{rules}
 use Rattle.term.proofs.Products.{three}
 use Rattle.term.proofs.first_below.Goals as goal
 

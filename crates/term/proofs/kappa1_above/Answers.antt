@@ -1,6 +1,5 @@
 -- `term::kappa1_above` meets its contract. Assumes nothing.
 use native.Mathlib.Omega.{arith}
-use borrow.Author.Rules.{rules}
 use Rattle.term.proofs.Products.{square}
 use Rattle.term.proofs.kappa1_above.Goals as goal
 

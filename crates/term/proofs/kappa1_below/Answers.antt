@@ -1,5 +1,4 @@
 -- `term::kappa1_below` meets its contract. Assumes nothing.
-use borrow.Author.Rules.{rules}
 use Rattle.term.proofs.Products.{square}
 use Rattle.term.proofs.kappa1_below.Goals as goal
 

@@ -1,6 +1,5 @@
 -- `term::kappa2_above` meets its contract. Assumes nothing.
 use native.Mathlib.Omega.{arith}
-use borrow.Author.Rules.{rules}
 use Rattle.term.proofs.Products.{square, cube, bounded}
 use Rattle.term.proofs.kappa2_above.Goals as goal
 

@@ -1,6 +1,5 @@
 -- `term::kappa2_below` meets its contract. Assumes nothing.
 use native.Mathlib.Omega.{arith}
-use borrow.Author.Rules.{rules}
 use Rattle.term.proofs.Products.{square, cube, bounded}
 use Rattle.term.proofs.kappa2_below.Goals as goal
 

@@ -2,7 +2,6 @@
 use mathlib.Core.Path.{◌∙◌}
 use Prim.Native.Nat.{◌*◌}
 use native.Mathlib.Omega.{arith}
-use borrow.Author.Rules.{rules}
 use Rattle.millionths.specs.Reached.{reached_by}
 use Rattle.term.proofs.Products.{bounded}
 use Rattle.term.proofs.Millionths.{reached_is}
@@ -12,7 +11,7 @@ pub overflow_mul-x-2 : goal.overflow_mul-x-2
 overflow_mul-x-2 c = let a = c.args in omega (arith, bounded {a = 10000 * a.fy} {b = a.den} 7000000 68719476735 (omega arith) (omega arith))
 
 pub returns : goal.returns
-returns c = 
+returns c =
     let a = c.args in
     c.reached.ensures
     ∙ (λ i. reached_by (c.power_for.ensures i) (10000 * a.fy * a.den * c.above-f.ensures i) (11 * a.num * c.below-g.ensures i))

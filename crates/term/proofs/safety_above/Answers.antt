@@ -1,5 +1,4 @@
 -- `term::safety_above` meets its contract. Assumes nothing.
-use borrow.Author.Rules.{rules}
 use Rattle.term.proofs.safety_above.Goals as goal
 
 pub returns-else-far : goal.returns-else-far

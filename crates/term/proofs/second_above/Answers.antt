@@ -1,5 +1,4 @@
 -- `term::second_above` meets its contract. Assumes nothing.
-use borrow.Author.Rules.{rules}
 use Rattle.term.proofs.Products.{four}
 use Rattle.term.proofs.second_above.Goals as goal
 

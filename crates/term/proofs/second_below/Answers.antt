@@ -1,5 +1,4 @@
 -- `term::second_below` meets its contract. Assumes nothing.
-use borrow.Author.Rules.{rules}
 use Rattle.term.proofs.Products.{four}
 use Rattle.term.proofs.second_below.Goals as goal
 

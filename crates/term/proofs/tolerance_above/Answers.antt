@@ -1,6 +1,5 @@
 -- `term::tolerance_above` meets its contract. Assumes nothing.
 use native.Mathlib.Omega.{arith}
-use borrow.Author.Rules.{rules}
 use Rattle.term.proofs.Products.{bounded}
 use Rattle.term.proofs.tolerance_above.Goals as goal
 

@@ -1,5 +1,4 @@
 -- `term::tolerance_below` meets its contract. Assumes nothing.
-use borrow.Author.Rules.{rules}
 use Rattle.term.proofs.tolerance_below.Goals as goal
 
 pub returns-else-long : goal.returns-else-long

@@ -1,7 +1,6 @@
 -- `wind::ring_stress` meets its contract. Assumes nothing.
 use mathlib.Core.Path.{sym, ◌∙◌}
 use native.Mathlib.Omega.{arith}
-use borrow.Author.Rules.{rules}
 use Rattle.wind.proofs.Rows.{load_most, capped_most, rootless_most}
 use Rattle.wind.proofs.Search.{eighths, top_found, same_found, lo_found, hi_found}
 use Rattle.wind.proofs.Stress.{found}
@@ -28,11 +27,10 @@ up-lo-requires c = (omega arith, omega (arith, rootless_most c.args.s c.args.gus
 pub returns-then-top-lo : goal.returns-then-top-lo
 returns-then-top-lo c =
     let f =
-      found c.args.s c.args.gust c.args.vented c.requires
-          (top_found c.args.s c.args.gust c.args.vented c.root_part-root.result c.up-top.result c.up-lo.result c.requires
-          (eighths _ _ _ c.root_part-root.ensures.0) c.up-top.ensures c.up-lo.ensures c.if-top-lo.true) in
+    found c.args.s c.args.gust c.args.vented c.requires
+    (top_found c.args.s c.args.gust c.args.vented c.root_part-root.result c.up-top.result c.up-lo.result c.requires
+    (eighths _ _ _ c.root_part-root.ensures.0) c.up-top.ensures c.up-lo.ensures c.if-top-lo.true) in
     record { value = f.0; upper_bound = f.1 }
-
 
 pub overflow_add-rootless-3 : goal.overflow_add-rootless-3
 overflow_add-rootless-3 c = omega (arith, rootless_most c.args.s c.args.gust c.args.vented c.requires)
@@ -46,11 +44,10 @@ up-hi-requires c = (omega arith, omega (arith, rootless_most c.args.s c.args.gus
 pub returns-then-lo-hi : goal.returns-then-lo-hi
 returns-then-lo-hi c =
     let f =
-      found c.args.s c.args.gust c.args.vented c.requires
-          (same_found c.args.s c.args.gust c.args.vented c.root_part-root.result c.up-top.result c.up-lo.result c.requires
-          (eighths _ _ _ c.root_part-root.ensures.0) c.up-top.ensures c.up-lo.ensures c.up-hi.result c.up-hi.ensures c.if-top-lo.false c.if-lo-hi.true) in
+    found c.args.s c.args.gust c.args.vented c.requires
+    (same_found c.args.s c.args.gust c.args.vented c.root_part-root.result c.up-top.result c.up-lo.result c.requires
+    (eighths _ _ _ c.root_part-root.ensures.0) c.up-top.ensures c.up-lo.ensures c.up-hi.result c.up-hi.ensures c.if-top-lo.false c.if-lo-hi.true) in
     record { value = f.0; upper_bound = f.1 }
-
 
 pub overflow_mul-lo : goal.overflow_mul-lo
 overflow_mul-lo c = omega (arith, rootless_most c.args.s c.args.gust c.args.vented c.requires)
@@ -58,17 +55,16 @@ overflow_mul-lo c = omega (arith, rootless_most c.args.s c.args.gust c.args.vent
 pub returns-then-root_at_most : goal.returns-then-root_at_most
 returns-then-root_at_most c =
     let f =
-      found c.args.s c.args.gust c.args.vented c.requires
-          (lo_found c.args.s c.args.gust c.args.vented c.root_part-root.result c.up-top.result c.up-lo.result c.requires
-          (eighths _ _ _ c.root_part-root.ensures.0) c.up-top.ensures c.up-lo.ensures c.if-top-lo.false (sym c.root_at_most.ensures ∙ c.if-root_at_most.true)) in
+    found c.args.s c.args.gust c.args.vented c.requires
+    (lo_found c.args.s c.args.gust c.args.vented c.root_part-root.result c.up-top.result c.up-lo.result c.requires
+    (eighths _ _ _ c.root_part-root.ensures.0) c.up-top.ensures c.up-lo.ensures c.if-top-lo.false (sym c.root_at_most.ensures ∙ c.if-root_at_most.true)) in
     record { value = f.0; upper_bound = f.1 }
-
 
 pub returns : goal.returns
 returns c =
     let f =
-      found c.args.s c.args.gust c.args.vented c.requires
-          (hi_found c.args.s c.args.gust c.args.vented c.root_part-root.result c.up-top.result c.up-lo.result c.requires
-          (eighths _ _ _ c.root_part-root.ensures.0) c.up-top.ensures c.up-lo.ensures c.up-hi.result c.up-hi.ensures c.if-top-lo.false
-          c.if-lo-hi.false (sym c.root_at_most.ensures ∙ c.if-root_at_most.false)) in
+    found c.args.s c.args.gust c.args.vented c.requires
+    (hi_found c.args.s c.args.gust c.args.vented c.root_part-root.result c.up-top.result c.up-lo.result c.requires
+    (eighths _ _ _ c.root_part-root.ensures.0) c.up-top.ensures c.up-lo.ensures c.up-hi.result c.up-hi.ensures c.if-top-lo.false
+    c.if-lo-hi.false (sym c.root_at_most.ensures ∙ c.if-root_at_most.false)) in
     record { value = f.0; upper_bound = f.1 }

@@ -1,5 +1,4 @@
 -- `wind::root_at_most` meets its contract. Assumes nothing.
-use borrow.Author.Rules.{rules}
 use mathlib.Core.Path.{refl}
 use Rattle.wind.proofs.Rows.{within_row}
 use Rattle.wind.proofs.root_at_most.Goals as goal

@@ -1,5 +1,4 @@
 -- `wind::up` meets its contract. Assumes nothing.
-use borrow.Author.Rules.{rules}
 use Rattle.wind.proofs.Rows.{rounded_up}
 use Rattle.wind.proofs.up.Goals as goal
 

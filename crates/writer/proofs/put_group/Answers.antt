@@ -1,4 +1,3 @@
-use borrow.Author.Rules.{rules}
 use native.Mathlib.Omega.{arith}
 use Rattle.text.proofs.Laws.{wrote_then}
 use Rattle.writer.proofs.Puts.{wrote_as, group_length, group_joined}
@@ -23,7 +22,7 @@ pub put_bytes-requires : goal.put_bytes-requires
 put_bytes-requires c = omega (arith, group_length c.args.g, c.requires)
 
 pub returns : goal.returns
-returns c = 
+returns c =
     let w1 = wrote_then _ _ _ _ _ _ _ _ c.put_bytes-at.ensures c.put_number-at.ensures in
     let w2 = wrote_then _ _ _ _ _ _ _ _ w1 c.put_bytes-at-2.ensures in
     let w3 = wrote_then _ _ _ _ _ _ _ _ w2 c.put_ring-at.ensures in

@@ -1,6 +1,6 @@
 -- `writer::put_groups` meets its contract. The loop's invariant: the first `i` groups are written from `at` to `next`. Assumes nothing.
 use mathlib.Core.Path.{◌≡◌, refl, ap, subst}
-use Prim.Native.Nat.{ℕ, ◌≤◌, ◌-◌}
+use Prim.Native.Nat.{ℕ}
 use native.Mathlib.Nat.{le_antisymm}
 use native.Mathlib.Omega.{arith}
 use lib.ListN.{length, take}
@@ -36,6 +36,6 @@ pub shape_of-out : goal.shape_of-out
 shape_of-out c = omega (arith, ap length c.loop-i.invariant.1.out_after, put_length c.args.out.now c.args.at (groups_text (take c.loop-i.i c.args.c.groups)))
 
 pub returns : goal.returns
-returns c = 
+returns c =
     let all : c.loop-i.i ≡ c.args.c.count = le_antisymm c.loop-i.invariant.0 c.loop-i-test.false in
     subst (λ (n : ℕ). Wrote c.args.out.now c.args.at (groups_text (take n c.args.c.groups)) c.loop-i.next c.loop-i.out) all c.loop-i.invariant.1

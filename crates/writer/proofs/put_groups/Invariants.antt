@@ -1,12 +1,7 @@
-use mathlib.Core.Path.{◌≡◌, refl, ap, subst}
-use Prim.Native.Nat.{ℕ, ◌≤◌, ◌-◌}
-use native.Mathlib.Nat.{le_antisymm}
-use native.Mathlib.Omega.{arith}
-use lib.ListN.{length, take}
-use Rattle.text.specs.Slices.{put}
-use Rattle.text.proofs.Laws.{Wrote, put_length}
+use Prim.Native.Nat.{◌≤◌, ◌-◌}
+use lib.ListN.{take}
+use Rattle.text.proofs.Laws.{Wrote}
 use Rattle.reading.specs.Text.{groups_text}
-use Rattle.writer.proofs.Puts.{group_fits, group_wrote}
 use Rattle.writer.proofs.put_groups.Given as goal
 
 abbrev pub invariant-loop-i : goal.invariant-loop-i

@@ -4,7 +4,6 @@ use native.Mathlib.Omega.{arith}
 use Rattle.text.specs.Slices.{put}
 use Rattle.reading.specs.Text.{inner_text}
 use Rattle.writer.proofs.Puts.{wrote_as}
-use borrow.Author.Rules.{rules}
 use Rattle.writer.proofs.put_inner.Goals as goal
 
 pub put_pressure-requires : goal.put_pressure-requires

@@ -3,7 +3,6 @@ use native.Mathlib.Omega.{arith}
 use Rattle.text.proofs.Laws.{wrote_then}
 use Rattle.cases.specs.Answering.{load_cases}
 use Rattle.writer.proofs.Puts.{wrote_as, line_length, line_joined}
-use borrow.Author.Rules.{rules}
 use Rattle.writer.proofs.put_line.Goals as goal
 
 pub put_bytes-at-requires : goal.put_bytes-at-requires
@@ -22,7 +21,7 @@ pub put_bytes-requires : goal.put_bytes-requires
 put_bytes-requires c = omega (arith, line_length (load_cases c.args.c), c.requires.c_in_bounds, c.put_bytes-at.ensures.value, c.put_wall-at.ensures.value, c.put_groups-at.ensures.value, c.put_inner-at.ensures.value)
 
 pub returns : goal.returns
-returns c = 
+returns c =
     let w1 = wrote_then _ _ _ _ _ _ _ _ c.put_bytes-at.ensures c.put_wall-at.ensures in
     let w2 = wrote_then _ _ _ _ _ _ _ _ w1 c.put_groups-at.ensures in
     let w3 = wrote_then _ _ _ _ _ _ _ _ w2 c.put_inner-at.ensures in

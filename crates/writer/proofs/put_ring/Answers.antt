@@ -1,5 +1,4 @@
 use mathlib.Core.Path.{sym, ap}
-use borrow.Author.Rules.{rules}
 use Rattle.reading.specs.Text.{ring_text}
 use Rattle.writer.proofs.Puts.{wrote_as}
 use Rattle.writer.proofs.put_ring.Goals as goal

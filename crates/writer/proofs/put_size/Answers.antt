@@ -1,4 +1,3 @@
-use borrow.Author.Rules.{rules}
 use native.Mathlib.Omega.{arith}
 use Rattle.text.proofs.Laws.{wrote_then}
 use Rattle.writer.proofs.Puts.{size_length}
@@ -14,7 +13,7 @@ pub put_spaced-requires : goal.put_spaced-requires
 put_spaced-requires c = omega (arith, size_length c.args.w, c.requires)
 
 pub returns : goal.returns
-returns c = 
+returns c =
     let w1 = wrote_then _ _ _ _ _ _ _ _ c.put_number-at.ensures c.put_spaced-at.ensures in
     let w2 = wrote_then _ _ _ _ _ _ _ _ w1 c.put_spaced.ensures in
     w2

@@ -1,4 +1,3 @@
-use borrow.Author.Rules.{rules}
 use native.Mathlib.Omega.{arith}
 use Rattle.text.proofs.Laws.{wrote_then}
 use Rattle.writer.proofs.Puts.{wrote_as, size_length, wall_length, wall_joined}
@@ -23,7 +22,7 @@ pub put_spaced-requires : goal.put_spaced-requires
 put_spaced-requires c = omega (arith, wall_length c.args.w, size_length c.args.w, c.requires)
 
 pub returns : goal.returns
-returns c = 
+returns c =
     let w1 = wrote_then _ _ _ _ _ _ _ _ c.put_size-at.ensures c.put_spaced-at.ensures in
     let w2 = wrote_then _ _ _ _ _ _ _ _ w1 c.put_spaced-at-2.ensures in
     let w3 = wrote_then _ _ _ _ _ _ _ _ w2 c.put_spaced-at-3.ensures in

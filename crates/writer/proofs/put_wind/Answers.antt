@@ -1,4 +1,3 @@
-use borrow.Author.Rules.{rules}
 use native.Mathlib.Omega.{arith}
 use Rattle.text.proofs.Laws.{wrote_then}
 use Rattle.writer.proofs.Puts.{wrote_as, wind_length, wind_joined}
@@ -17,7 +16,7 @@ pub put_bytes-requires : goal.put_bytes-requires
 put_bytes-requires c = omega (arith, wind_length c.args.gust c.args.vented, c.requires)
 
 pub returns : goal.returns
-returns c = 
+returns c =
     let w1 = wrote_then _ _ _ _ _ _ _ _ c.put_bytes-at.ensures c.put_number-at.ensures in
     let w2 = wrote_then _ _ _ _ _ _ _ _ w1 c.put_spaced-at.ensures in
     let w3 = wrote_then _ _ _ _ _ _ _ _ w2 c.put_bytes.ensures in

@@ -1,6 +1,5 @@
 -- `answer::Answer::number` meets its contract. Assumes nothing.
 use mathlib.Core.Path.{sym, ap, ◌∙◌}
-use borrow.Author.Rules.{rules}
 use Rattle.answer.specs.Answers.{answer_number}
 use Rattle.answer.proofs.Answer.number.Goals as goal
 

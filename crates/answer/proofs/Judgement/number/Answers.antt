@@ -1,5 +1,4 @@
 -- `answer::Judgement::number` meets its contract. Assumes nothing.
-use borrow.Author.Rules.{rules}
 use native.Mathlib.Omega.{arith}
 use Rattle.answer.proofs.Judgement.number.Goals as goal
 

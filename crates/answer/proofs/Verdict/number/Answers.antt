@@ -1,5 +1,4 @@
 -- `answer::Verdict::number` meets its contract. Assumes nothing.
-use borrow.Author.Rules.{rules}
 use lib.Dec.{lit≤}
 use mathlib.Core.Path.{sym, ap}
 use Rattle.answer.specs.Answers.{verdict_number}

@@ -1,5 +1,4 @@
 -- `answer::Verdict::severity` meets its contract. Assumes nothing.
-use borrow.Author.Rules.{rules}
 use mathlib.Core.Path.{sym, ap}
 use Rattle.answer.specs.Governing.{severity_of}
 use Rattle.answer.proofs.Verdict.severity.Goals as goal

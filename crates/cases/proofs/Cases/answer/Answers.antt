@@ -1,7 +1,6 @@
 -- `cases::Cases::answer` meets its contract. Assumes nothing.
 use mathlib.Core.Path.{◌≡◌, sym, ap, ◌∙◌, subst}
 use native.Mathlib.Omega.{arith}
-use borrow.Author.Rules.{rules}
 use lib.ListN.{get_or}
 use Rattle.pressure.specs.declared.Order.{Order}
 use Rattle.answer.specs.declared.Answer.{Answer}
@@ -19,7 +18,7 @@ laid : (o : Order) (c : Cases) → Counted c → (a : Answer) → a ≡ cases_an
 laid o c k a e = (e, subst (RightCases o (load_cases c)) (sym e) (cases_right o (load_cases c) (some_taken c.groups c.count k.some (omega (arith, k.size)))))
 
 pub returns-then-self-eq1 : goal.returns-then-self-eq1
-returns-then-self-eq1 c = 
+returns-then-self-eq1 c =
     let self = c.args.self in
     let same = one_taken self.groups self.count c.if-self-eq1.true (omega (arith, c.requires.size)) in
     let f = laid c.args.o self c.requires _
@@ -31,19 +30,19 @@ returns-then-self-eq1 c =
 
 pub returns-then-n-gt0 : goal.returns-then-n-gt0
 unfolding cases_answer
-returns-then-n-gt0 c = 
+returns-then-n-gt0 c =
     let l = load_cases c.args.self in
     let f = laid c.args.o c.args.self c.requires _ (sym (first_broken Refused _ (case_checks l) _ (refusal_broken (case_checks l) (cases_above l) _ c.refusal-n.ensures c.if-n-gt0.true))) in
     record { value = f.0; right_cases = f.1 }
 
 pub judgement-requires : goal.judgement-requires
-judgement-requires c = 
+judgement-requires c =
     let l = load_cases c.args.self in
     (c.requires, refusal_none (case_checks l) (cases_above l) _ c.refusal-n.ensures c.if-n-gt0.false)
 
 pub returns : goal.returns
 unfolding cases_answer
-returns c = 
+returns c =
     let l = load_cases c.args.self in
     let f = laid c.args.o c.args.self c.requires _
     (ap Judged c.judgement.ensures ∙ sym (all_passed Refused _ (case_checks l) (refusal_none (case_checks l) (cases_above l) _ c.refusal-n.ensures c.if-n-gt0.false))) in

@@ -1,9 +1,8 @@
 -- `cases::Cases::earliest` meets its contract. Assumes nothing.
 use mathlib.Core.Path.{◌≡◌, subst}
-use Prim.Native.Nat.{ℕ, ◌≤◌, ◌-◌}
+use Prim.Native.Nat.{ℕ}
 use native.Mathlib.Nat.{le_antisymm}
 use native.Mathlib.Omega.{arith}
-use borrow.Author.Rules.{rules}
 use lib.ListN.{take}
 use Rattle.cases.specs.Answering.{StandsFor}
 use Rattle.cases.proofs.Checks.{stands_start, stands_step}
@@ -31,7 +30,7 @@ pub loop-i-preserved : goal.loop-i-preserved
 loop-i-preserved c = (omega arith, omega arith, stands_step c.args.self.groups c.loop-i.i c.loop-i.found c.earlier-found.result (omega (arith, c.requires.size, c.requires.most)) c.loop-i.invariant.2 c.earlier-found.ensures)
 
 pub returns : goal.returns
-returns c = 
+returns c =
     let self = c.args.self in
     let all : c.loop-i.i ≡ self.count = le_antisymm (omega arith) (omega arith) in
     subst (λ (n : ℕ). StandsFor (take n self.groups) c.loop-i.found) all c.loop-i.invariant.2

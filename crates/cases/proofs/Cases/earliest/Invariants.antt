@@ -1,11 +1,6 @@
-use mathlib.Core.Path.{◌≡◌, subst}
-use Prim.Native.Nat.{ℕ, ◌≤◌, ◌-◌}
-use native.Mathlib.Nat.{le_antisymm}
-use native.Mathlib.Omega.{arith}
-use borrow.Author.Rules.{rules}
+use Prim.Native.Nat.{◌≤◌, ◌-◌}
 use lib.ListN.{take}
 use Rattle.cases.specs.Answering.{StandsFor}
-use Rattle.cases.proofs.Checks.{stands_start, stands_step}
 use Rattle.cases.proofs.Cases.earliest.Given as goal
 
 abbrev pub invariant-loop-i : goal.invariant-loop-i

@@ -1,9 +1,8 @@
 -- `cases::Cases::judgement` meets its contract. Assumes nothing.
 use mathlib.Core.Path.{◌≡◌, sym, ap, ◌∙◌, subst}
-use Prim.Native.Nat.{ℕ, ◌≤◌, ◌<◌, ◌-◌, ◌+◌}
+use Prim.Native.Nat.{ℕ, ◌<◌, ◌+◌}
 use native.Mathlib.Nat.{le_antisymm}
 use native.Mathlib.Omega.{arith}
-use borrow.Author.Rules.{rules}
 use lib.ListN.{take, get_or}
 use Rattle.pressure.specs.declared.Order.{Order}
 use Rattle.answer.specs.Governing.{worse_of}
@@ -37,23 +36,22 @@ pub case_at-first-requires : goal.case_at-first-requires
 case_at-first-requires c = omega arith
 
 pub judgement_by-worst-requires : goal.judgement_by-worst-requires
-judgement_by-worst-requires c = 
+judgement_by-worst-requires c =
     let r = ready c.args.o c.args.self c.requires.0 c.requires.1 c.worked-w.result c.worked-w.ensures 0 c.requires.0.some c.case_at-first.result c.case_at-first.ensures in
     (r.0, r.1, c.root_table-roots.ensures)
 
 pub loop-i-init : goal.loop-i-init
-loop-i-init c = 
-    (
-      omega arith,
-      c.requires.0.some,
-      c.judgement_by-worst.ensures ∙ ap (judgement_of_record c.args.o) c.case_at-first.ensures ∙ governs_start c.args.o (load_cases c.args.self) c.args.self.groups (omega (arith, c.requires.0.size)),
-    )
+loop-i-init c = (
+  omega arith,
+  c.requires.0.some,
+  c.judgement_by-worst.ensures ∙ ap (judgement_of_record c.args.o) c.case_at-first.ensures ∙ governs_start c.args.o (load_cases c.args.self) c.args.self.groups (omega (arith, c.requires.0.size)),
+)
 
 pub case_at-next-requires : goal.case_at-next-requires
 case_at-next-requires c = omega (arith, c.requires.0.most)
 
 pub judgement_by-judged-requires : goal.judgement_by-judged-requires
-judgement_by-judged-requires c = 
+judgement_by-judged-requires c =
     let r = ready c.args.o c.args.self c.requires.0 c.requires.1 c.worked-w.result c.worked-w.ensures c.loop-i.i (omega (arith, c.loop-i-test.true)) c.case_at-next.result c.case_at-next.ensures in
     (r.0, r.1, c.root_table-roots.ensures)
 
@@ -64,7 +62,7 @@ pub loop-i-smaller : goal.loop-i-smaller
 loop-i-smaller c = omega arith
 
 pub loop-i-preserved : goal.loop-i-preserved
-loop-i-preserved c = 
+loop-i-preserved c =
     let self = c.args.self in (
       omega arith,
       omega arith,
@@ -74,7 +72,7 @@ loop-i-preserved c =
     )
 
 pub returns : goal.returns
-returns c = 
+returns c =
     let a = c.args in
     let self = a.self in
     let all : c.loop-i.i ≡ self.count = le_antisymm (omega arith) (omega arith) in

@@ -1,9 +1,8 @@
 -- `cases::Cases::wanted` meets its contract. Assumes nothing.
 use mathlib.Core.Path.{◌≡◌, subst}
-use Prim.Native.Nat.{ℕ, ◌≤◌, ◌-◌}
+use Prim.Native.Nat.{ℕ}
 use native.Mathlib.Nat.{le_antisymm}
 use native.Mathlib.Omega.{arith}
-use borrow.Author.Rules.{rules}
 use lib.ListN.{take}
 use Rattle.cases.specs.Answering.{WantedBy}
 use Rattle.cases.proofs.Wanting.{wanted_step}
@@ -28,7 +27,7 @@ pub loop-i-preserved : goal.loop-i-preserved
 loop-i-preserved c = (omega arith, wanted_step c.args.self.groups c.loop-i.i c.loop-i.w c.wanted_too-w.result (omega (arith, c.requires.size, c.requires.most)) c.loop-i.invariant.1 c.wanted_too-w.ensures)
 
 pub returns : goal.returns
-returns c = 
+returns c =
     let self = c.args.self in
     let all : c.loop-i.i ≡ self.count = le_antisymm (omega arith) (omega arith) in
     subst (λ (n : ℕ). WantedBy (take n self.groups) c.loop-i.w) all c.loop-i.invariant.1

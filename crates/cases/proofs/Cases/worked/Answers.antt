@@ -1,6 +1,5 @@
 -- `cases::Cases::worked` meets its contract. Assumes nothing.
 use native.Mathlib.Omega.{arith}
-use borrow.Author.Rules.{rules}
 use borrow.Author.Tests.{leb-true}
 use Rattle.line_bounds.proofs.Wanted.{worked_same}
 use lib.ListN.{get_or}
@@ -26,11 +25,11 @@ pub cylinder-requires : goal.cylinder-requires
 cylinder-requires c = wall_fits (one c.args.self) (passed c.args.self c.requires.0 c.requires.1)
 
 pub work-requires : goal.work-requires
-work-requires c = 
+work-requires c =
     let all = passed c.args.self c.requires.0 c.requires.1 in
     ((ring_fits (one c.args.self) all _ c.cylinder.ensures).0, omega (arith, c.pressure.ensures, leb-true (pressure_of c.args.self.inner) 1000000 all.1.1.1.1.1.1.1.0), c.requires.2)
 
 pub returns : goal.returns
-returns c m g at = 
+returns c m g at =
     let wants = c.wanted-w.ensures m g at in
     worked_same _ _ _ _ _ c.cylinder.ensures c.pressure.ensures wants.axial_is (λ n. wants.ring_is (ring_loaded _ g.ring n)) wants.shear_is c.work.ensures

@@ -1,5 +1,4 @@
 -- `record::Inner::pressure` meets its contract. Assumes nothing.
-use borrow.Author.Rules.{rules}
 use mathlib.Core.Path.{sym, ap}
 use Rattle.record.specs.Limits.{pressure_of}
 use Rattle.record.proofs.Inner.pressure.Goals as goal

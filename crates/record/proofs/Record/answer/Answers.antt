@@ -1,5 +1,4 @@
 -- `record::Record::answer` meets its contract. Assumes nothing.
-use borrow.Author.Rules.{rules}
 use mathlib.Core.Path.{◌≡◌, sym, ap, ◌∙◌, subst}
 use Rattle.pressure.specs.declared.Order.{Order}
 use Rattle.answer.specs.declared.Answer.{Answer}
@@ -19,20 +18,20 @@ laid o c a e = (e, subst (Right o c) (sym e) (record_right o c))
 
 pub returns-then-n-gt0 : goal.returns-then-n-gt0
 unfolding record_answer
-returns-then-n-gt0 c = 
+returns-then-n-gt0 c =
     let self = c.args.self in
     let f = laid c.args.o self _
     (sym (first_broken Refused _ (checks self) _ (refusal_broken (checks self) (above_none self) _ c.refusal-n.ensures c.if-n-gt0.true))) in
     record { value = f.0; right = f.1 }
 
 pub judgement-requires : goal.judgement-requires
-judgement-requires c = 
+judgement-requires c =
     let self = c.args.self in
     refusal_none (checks self) (above_none self) _ c.refusal-n.ensures c.if-n-gt0.false
 
 pub returns : goal.returns
 unfolding record_answer
-returns c = 
+returns c =
     let self = c.args.self in
     let f = laid c.args.o self _
     (ap Judged c.judgement.ensures

@@ -1,5 +1,4 @@
 -- `record::Record::is_in_range` meets its contract. Assumes nothing.
-use borrow.Author.Rules.{rules}
 use Rattle.algebra.proofs.Tests.{and_on, and_off}
 use Rattle.answer.proofs.Tests.{told}
 use Rattle.record.proofs.Record.is_in_range.Goals as goal

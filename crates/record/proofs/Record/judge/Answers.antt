@@ -1,6 +1,5 @@
 -- `record::Record::judge` meets its contract. Assumes nothing.
 use mathlib.Core.Path.{ap, ◌∙◌, subst}
-use borrow.Author.Rules.{rules}
 use Rattle.pressure.specs.declared.Order.TheVariants.{PressureFirst}
 use Rattle.record.specs.declared.Record.{Record}
 use Rattle.record.specs.Right.{Right}

@@ -1,5 +1,4 @@
 -- `record::Record::judgement` meets its contract. Assumes nothing.
-use borrow.Author.Rules.{rules}
 use mathlib.Core.Path.{ap, ◌∙◌}
 use native.Mathlib.Omega.{arith}
 use borrow.Author.Tests.{leb-true}
@@ -18,7 +17,7 @@ pub stress_on-requires : goal.stress_on-requires
 stress_on-requires c = ring_fits c.args.self c.requires _ c.cylinder-s.ensures
 
 pub of_line-b-requires : goal.of_line-b-requires
-of_line-b-requires c = 
+of_line-b-requires c =
     let self = c.args.self in
     let all = c.requires in
     let r = ranges self all.0 in (
@@ -31,7 +30,7 @@ of_line-b-requires c =
 
 pub returns : goal.returns
 unfolding bounds_of
-returns c = 
+returns c =
     let b = c.of_line-b.ensures in
     let e = c.cylinder-s.ensures in
     let y = c.load-y.ensures in

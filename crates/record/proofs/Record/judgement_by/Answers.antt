@@ -1,5 +1,4 @@
 -- `record::Record::judgement_by` meets its contract. Assumes nothing.
-use borrow.Author.Rules.{rules}
 use mathlib.Core.Path.{sym, ap, ◌∙◌, subst}
 use Prim.Native.Nat.{ℕ, ◌<◌}
 use native.Mathlib.Omega.{arith}
@@ -20,7 +19,7 @@ pub stress_on-requires : goal.stress_on-requires
 stress_on-requires c = ring_fits c.args.self c.requires.0 _ c.cylinder-s.ensures
 
 pub of_group-l-requires : goal.of_group-l-requires
-of_group-l-requires c = 
+of_group-l-requires c =
     let self = c.args.self in
     let given = c.requires in
     let all = given.0 in
@@ -41,7 +40,7 @@ of_group-l-requires c =
 
 pub returns : goal.returns
 unfolding bounds_of
-returns c = 
+returns c =
     let b = c.of_group-l.ensures in
     let e = c.cylinder-s.ensures in
     let y = c.load-y.ensures in

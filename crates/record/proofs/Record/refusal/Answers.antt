@@ -1,5 +1,4 @@
 -- `record::Record::refusal` meets its contract: the first check broken, by its place in the list. Assumes nothing.
-use borrow.Author.Rules.{rules}
 use mathlib.Core.Path.{refl, sym, ap, ◌∙◌}
 use Prim.Native.Nat.{ℕ}
 use lib.Dec.{leb}

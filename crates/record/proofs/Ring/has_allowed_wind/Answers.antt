@@ -1,6 +1,5 @@
 -- `record::Ring::has_allowed_wind` meets its contract. Assumes nothing.
 use mathlib.Core.Path.{refl, sym, ap, ◌∙◌}
-use borrow.Author.Rules.{rules}
 use borrow.Author.Tests.{le-leb, lt-leb}
 use Rattle.algebra.proofs.Tests.{and_on, and_off}
 use Rattle.record.specs.Limits.{wind_allowed}

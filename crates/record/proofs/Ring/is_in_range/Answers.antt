@@ -1,6 +1,5 @@
 -- `record::Ring::is_in_range` meets its contract. Assumes nothing.
 use mathlib.Core.Path.{sym, ap}
-use borrow.Author.Rules.{rules}
 use Rattle.record.specs.Limits.{ring_in_range}
 use Rattle.record.proofs.Ring.is_in_range.Goals as goal
 

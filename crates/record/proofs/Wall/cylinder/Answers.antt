@@ -1,7 +1,6 @@
 -- `record::Wall::cylinder` meets its contract. Assumes nothing.
 use mathlib.Core.Path.{ap}
 use Prim.Native.Nat.{ℕ}
-use borrow.Author.Rules.{rules}
 use Rattle.record.specs.Limits.{cylinder_by}
 use Rattle.record.proofs.Wall.cylinder.Goals as goal
 

@@ -1,6 +1,5 @@
 -- `record::Wall::has_length_ratio` meets its contract. Assumes nothing.
 use borrow.Author.Tests.{le-leb, lt-leb}
-use borrow.Author.Rules.{rules}
 use Rattle.record.proofs.Wall.has_length_ratio.Goals as goal
 
 pub returns-then-self : goal.returns-then-self

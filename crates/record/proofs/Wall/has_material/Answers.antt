@@ -1,5 +1,4 @@
 -- `record::Wall::has_material` meets its contract. Assumes nothing.
-use borrow.Author.Rules.{rules}
 use Rattle.algebra.proofs.Tests.{and_on, and_off}
 use Rattle.answer.proofs.Tests.{told}
 use Rattle.record.proofs.Wall.has_material.Goals as goal

@@ -1,7 +1,6 @@
 -- `record::Wall::has_wall_ratio` meets its contract. Assumes nothing.
 use mathlib.Core.Path.{ap, ◌∙◌}
 use Prim.Native.Nat.{ℕ}
-use borrow.Author.Rules.{rules}
 use Rattle.record.specs.Limits.{ratio_by}
 use Rattle.record.proofs.Wall.has_wall_ratio.Goals as goal
 

@@ -1,6 +1,5 @@
 -- `writer::Written::number` meets its contract. Assumes nothing.
 use mathlib.Core.Path.{sym, ap}
-use borrow.Author.Rules.{rules}
 use Rattle.writer.specs.Writing.{written_number}
 use Rattle.writer.proofs.Written.number.Goals as goal
 
