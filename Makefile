@@ -1,6 +1,6 @@
 # What can be made:
 #
-#     make                    prove and build the program and the archive for C; 4 to 5 minutes the first time, on two cores
+#     make                    prove and build the program and the archive for C; a quarter of an hour the first time, on four cores
 #     make program            the program alone: target/bin/shellsheet
 #     make driver             target/driver, which makes the calls of stored cases for tests/vectors
 #     make install            install what is built into PREFIX (/usr/local); needs no rt once it is built
@@ -33,7 +33,7 @@ driver: $(driver)
 $(program): $(sources)
 	@mkdir -p $(@D)
 	@command -v rt >target/check.log || { echo 'make: rt, the Rattle toolchain, is not on the PATH' >&2; exit 1; }
-	@echo 'Proving and building the program: 4 to 5 minutes the first time, on two cores. To follow it: tail -f target/check.log'
+	@echo 'Proving and building the program: a quarter of an hour the first time, on four cores. To follow it: tail -f target/check.log'
 	(cd crates/shellsheet && rt run -- --version) >target/check.log 2>&1 || { tail -n 40 target/check.log; exit 1; }
 	cp crates/shellsheet/out/shellsheet $@
 
