@@ -11,7 +11,9 @@ pub(crate) fn say(rt: &impl Print, text: &[u8]) -> io::Result<()> {
 
 // A number in decimal.
 pub(crate) fn say_number(rt: &impl Print, n: u64) -> io::Result<()> {
-    print!(rt; "{n}")
+    let mut digits = [0u8; 20];
+    let k = text::put_number(&mut digits, 0, n);
+    say(rt, &digits[..k])
 }
 
 // The place after so many marks % of `text`, or its end.
