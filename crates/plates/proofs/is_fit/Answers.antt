@@ -7,10 +7,10 @@ use Rattle.algebra.proofs.Tests.{and_on, and_off}
 use Rattle.plates.proofs.is_fit.Goals as goal
 
 pub overflow_mul-thickness : goal.overflow_mul-thickness
-overflow_mul-thickness c = let a = c.args in omega (arith, unbroken_thickness a.s a.thickness (sym c.refusal_of.ensures ∙ c.if-refusal_of-eq0.true))
+overflow_mul-thickness c = let a = c.args in omega (arith, unbroken_thickness a.s a.thickness (omega (arith, c.refusal_of.ensures)))
 
 pub returns-then-refusal_of-eq0 : goal.returns-then-refusal_of-eq0
-returns-then-refusal_of-eq0 c = and_on (eq-eqb _ _ (sym c.refusal_of.ensures ∙ c.if-refusal_of-eq0.true)) c.are_up_to.ensures
+returns-then-refusal_of-eq0 c = and_on (eq-eqb _ _ (omega (arith, c.refusal_of.ensures))) c.are_up_to.ensures
 
 pub returns-else-refusal_of-eq0 : goal.returns-else-refusal_of-eq0
 returns-else-refusal_of-eq0 c = and_off _ (ne_eqb _ _ (λ e. c.if-refusal_of-eq0.false (c.refusal_of.ensures ∙ e)))

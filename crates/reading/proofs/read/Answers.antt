@@ -74,7 +74,7 @@ returns-then-at-line c =
     (whole_more (λ p. Read (cases_in p)) (Refused 5)
     (finds_sequence (finds_before _ (fixed_finds c.fixed_at.ensures c.in-Read.is) shows)
     (finds_closed _ (finds_sequence (stored_finds r.groups r.count r.next c.groups_at-found.ensures.answers c.if-count-eq0.false) (finds c.inner_at.ensures (ap inner_part c.in-Read-inner_at.is))) (fixed_finds c.fixed_at-2.ensures c.in-Read-fixed_at.is)))
-    c.if-at-line.true) in
+    (λ e. absurd (omega (arith, e)))) in
     record { cases_value = f.0; counted = f.1 }
 
 pub returns : goal.returns
@@ -86,6 +86,6 @@ returns c =
           ∙ whole_found (λ p. Read (cases_in p)) (Refused 5)
           (finds_sequence (finds_before _ (fixed_finds c.fixed_at.ensures c.in-Read.is) shows)
           (finds_closed _ (finds_sequence (stored_finds r.groups r.count r.next c.groups_at-found.ensures.answers c.if-count-eq0.false) (finds c.inner_at.ensures (ap inner_part c.in-Read-inner_at.is))) (fixed_finds c.fixed_at-2.ensures c.in-Read-fixed_at.is)))
-          c.if-at-line.false;
+          (omega arith);
       counted = λ _. record { some = omega (arith, c.if-count-eq0.false); most = c.groups_at-found.ensures.count_bound.0; size = c.groups_at-found.ensures.count_bound.1 };
     }

@@ -8,7 +8,7 @@ pub returns-then-word-eq0 : goal.returns-then-word-eq0
 returns-then-word-eq0 c = sym (number_start _ (start_none _ c.if-word-eq0.true))
 
 pub returns-then-word-gt7 : goal.returns-then-word-gt7
-returns-then-word-gt7 c = sym (number_long _ c.if-word-gt7.true)
+returns-then-word-gt7 c = sym (number_long _ (omega arith))
 
 pub returns-then-word-eq48 : goal.returns-then-word-eq48
 returns-then-word-eq48 c = sym (number_start _ (start_zero _ c.if-word-gt1.true c.if-word-eq48.true))
@@ -28,10 +28,10 @@ pub returns-then-b-gt57 : goal.returns-then-b-gt57
 returns-then-b-gt57 c = sym (reading_high _ _ _ c.loop-i.invariant c.loop-i-test.true c.if-b-lt48.false c.if-b-gt57.true)
 
 pub overflow_mul-v : goal.overflow_mul-v
-overflow_mul-v c = omega (arith, reading_small _ _ _ c.loop-i.invariant c.loop-i-test.true c.if-word-gt7.false)
+overflow_mul-v c = omega (arith, reading_small _ _ _ c.loop-i.invariant c.loop-i-test.true (omega arith))
 
 pub overflow_add-v : goal.overflow_add-v
-overflow_add-v c = omega (arith, reading_small _ _ _ c.loop-i.invariant c.loop-i-test.true c.if-word-gt7.false)
+overflow_add-v c = omega (arith, reading_small _ _ _ c.loop-i.invariant c.loop-i-test.true (omega arith))
 
 pub loop-i-preserved : goal.loop-i-preserved
 loop-i-preserved c =
@@ -39,4 +39,4 @@ loop-i-preserved c =
     rw c.wide.ensures (reading_turn _ _ _ l.invariant c.loop-i-test.true c.if-b-lt48.false c.if-b-gt57.false)
 
 pub returns : goal.returns
-returns c = reading_done _ _ _ c.loop-i.invariant c.loop-i-test.false c.if-word-gt7.false
+returns c = reading_done _ _ _ c.loop-i.invariant c.loop-i-test.false (omega arith)

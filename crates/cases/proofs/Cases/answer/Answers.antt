@@ -32,18 +32,18 @@ pub returns-then-n-gt0 : goal.returns-then-n-gt0
 unfolding cases_answer
 returns-then-n-gt0 c =
     let l = load_cases c.args.self in
-    let f = laid c.args.o c.args.self c.requires _ (sym (first_broken Refused _ (case_checks l) _ (refusal_broken (case_checks l) (cases_above l) _ c.refusal-n.ensures c.if-n-gt0.true))) in
+    let f = laid c.args.o c.args.self c.requires _ (sym (first_broken Refused _ (case_checks l) _ (refusal_broken (case_checks l) (cases_above l) _ c.refusal-n.ensures (omega arith)))) in
     record { value = f.0; right_cases = f.1 }
 
 pub judgement-requires : goal.judgement-requires
 judgement-requires c =
     let l = load_cases c.args.self in
-    (c.requires, refusal_none (case_checks l) (cases_above l) _ c.refusal-n.ensures c.if-n-gt0.false)
+    (c.requires, refusal_none (case_checks l) (cases_above l) _ c.refusal-n.ensures (omega arith))
 
 pub returns : goal.returns
 unfolding cases_answer
 returns c =
     let l = load_cases c.args.self in
     let f = laid c.args.o c.args.self c.requires _
-    (ap Judged c.judgement.ensures ∙ sym (all_passed Refused _ (case_checks l) (refusal_none (case_checks l) (cases_above l) _ c.refusal-n.ensures c.if-n-gt0.false))) in
+    (ap Judged c.judgement.ensures ∙ sym (all_passed Refused _ (case_checks l) (refusal_none (case_checks l) (cases_above l) _ c.refusal-n.ensures (omega arith)))) in
     record { value = f.0; right_cases = f.1 }

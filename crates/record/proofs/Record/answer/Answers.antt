@@ -1,4 +1,5 @@
 -- `record::Record::answer` meets its contract. Assumes nothing.
+use native.Mathlib.Omega.{arith}
 use mathlib.Core.Path.{◌≡◌, sym, ap, ◌∙◌, subst}
 use Rattle.pressure.specs.declared.Order.{Order}
 use Rattle.answer.specs.declared.Answer.{Answer}
@@ -21,13 +22,13 @@ unfolding record_answer
 returns-then-n-gt0 c =
     let self = c.args.self in
     let f = laid c.args.o self _
-    (sym (first_broken Refused _ (checks self) _ (refusal_broken (checks self) (above_none self) _ c.refusal-n.ensures c.if-n-gt0.true))) in
+    (sym (first_broken Refused _ (checks self) _ (refusal_broken (checks self) (above_none self) _ c.refusal-n.ensures (omega arith)))) in
     record { value = f.0; right = f.1 }
 
 pub judgement-requires : goal.judgement-requires
 judgement-requires c =
     let self = c.args.self in
-    refusal_none (checks self) (above_none self) _ c.refusal-n.ensures c.if-n-gt0.false
+    refusal_none (checks self) (above_none self) _ c.refusal-n.ensures (omega arith)
 
 pub returns : goal.returns
 unfolding record_answer
@@ -35,5 +36,5 @@ returns c =
     let self = c.args.self in
     let f = laid c.args.o self _
     (ap Judged c.judgement.ensures
-    ∙ sym (all_passed Refused _ (checks self) (refusal_none (checks self) (above_none self) _ c.refusal-n.ensures c.if-n-gt0.false))) in
+    ∙ sym (all_passed Refused _ (checks self) (refusal_none (checks self) (above_none self) _ c.refusal-n.ensures (omega arith)))) in
     record { value = f.0; right = f.1 }
