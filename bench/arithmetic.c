@@ -8,20 +8,24 @@
 
 enum { LIMBS = 96, REPEATS = 15, ROUNDS = 200000 };
 
-size_t bench_times(uint64_t *l, size_t n, uint64_t k);
-size_t bench_square(uint64_t *l, const uint64_t *a, size_t n);
-size_t bench_fifth_power(uint64_t *l, const uint64_t *a, size_t n);
+struct number { uint64_t limbs[LIMBS]; size_t used; };
+
+void bench_times(struct number *x, uint64_t k);
+size_t bench_square(const struct number *a);
+size_t bench_fifth_power(const struct number *a);
 bool bench_products_at_most(const uint64_t *f, size_t f_len, const uint64_t *g, size_t g_len);
 bool bench_sums_at_most(const uint64_t *f, size_t f_len, const uint64_t *g, size_t g_len,
                         const uint64_t *h, size_t h_len, const uint64_t *k, size_t k_len);
 
-static uint64_t a[LIMBS], l[LIMBS], f[40], g[40];
+static struct number a, x;
+static uint64_t f[40], g[40];
 static volatile uint64_t sink;
 
 /* a number of n limbs, each in use */
 static void number(size_t n) {
-    memset(a, 0, sizeof a);
-    for (size_t i = 0; i < n; i++) a[i] = 0x9e3779b9u * (i + 1) % 0xffffffffu | 1;
+    memset(&a, 0, sizeof a);
+    a.used = n;
+    for (size_t i = 0; i < n; i++) a.limbs[i] = 0x9e3779b9u * (i + 1) % 0xffffffffu | 1;
 }
 
 static void factors(size_t n, uint64_t below) {
@@ -31,11 +35,23 @@ static void factors(size_t n, uint64_t below) {
     }
 }
 
-static void times_limb_ten(void) { memcpy(l, a, 12 * sizeof *l); sink += bench_times(l, 10, 0x89abcdef); }
-static void times_ten(void) { memcpy(l, a, 12 * sizeof *l); sink += bench_times(l, 10, 0x0123456789abcdef); }
-static void copy_ten(void) { memcpy(l, a, 11 * sizeof *l); sink += l[3]; }
-static void square_ten(void) { sink += bench_square(l, a, 10); }
-static void fifth_four(void) { sink += bench_fifth_power(l, a, 4); }
+/* x is the first limbs of a */
+static void copied(size_t limbs) {
+    memcpy(x.limbs, a.limbs, limbs * sizeof *x.limbs);
+    x.used = 10;
+}
+
+static void times_ten_by(uint64_t k) {
+    copied(12);
+    bench_times(&x, k);
+    sink += x.used;
+}
+
+static void times_limb_ten(void) { times_ten_by(0x89abcdef); }
+static void times_ten(void) { times_ten_by(0x0123456789abcdef); }
+static void copy_ten(void) { copied(11); sink += x.limbs[3]; }
+static void square_ten(void) { sink += bench_square(&a); }
+static void fifth_four(void) { sink += bench_fifth_power(&a); }
 static void compare_twenty(void) { sink += bench_products_at_most(f, 20, g, 20); }
 static void compare_ten(void) { sink += bench_products_at_most(f, 10, g, 10); }
 static void sums_ten(void) { sink += bench_sums_at_most(f, 10, f + 10, 10, g, 10, g + 10, 10); }

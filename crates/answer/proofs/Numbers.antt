@@ -1,35 +1,34 @@
 -- The number of an answer tells the answer: the load case, the verdict, L and U, or the refusal. Assumes nothing.
-use mathlib.Core.Path.{◌≡◌, refl, ap}
-use Prim.Native.Nat.{ℕ, ◌+◌, ◌-◌, ◌*◌, ◌≤◌, ◌<◌}
+use mathlib.Core.Path.{◌≡◌, refl, sym, ap, ◌∙◌}
+use Rattle.std.specs.Prelude.{Ok, Err}
+use Prim.Native.Nat.{ℕ, ◌+◌, ◌-◌, ◌*◌, ◌≤◌}
+use lib.Dec.{lit≤}
+use lib.ListN.{get_or}
+use mathlib.Core.List.{[], ◌∷◌}
 use native.Mathlib.Omega.{arith}
 use Rattle.answer.specs.declared.Verdict.{Verdict}
 use Rattle.answer.specs.declared.Verdict.TheVariants.{Holds, Fails, Open}
 use Rattle.answer.specs.declared.Judgement.{Judgement}
-use Rattle.answer.specs.declared.Answer.{Answer}
-use Rattle.answer.specs.declared.Answer.TheVariants.{Refused, Judged}
-use Rattle.answer.specs.Answers.{verdict_number, judgement_number, answer_number}
+use Rattle.answer.specs.declared.Refusal.{Refusal}
+use Rattle.answer.specs.declared.Refusal.TheVariants.{SheetBytes, SheetLines, ListingRoom, LineBytes, Form, Range, Edges, WallRatio, LengthRatio, Imperfection, Shortfall, LineRoom, Wind, PlateList, Force, Pressure}
+use Rattle.answer.specs.Answers.{Answer, verdict_number, refusal_number, judgement_number, answer_number}
 use Rattle.answer.specs.Answering.{Bounded}
-
--- a refusal is below the number of every judgement
-abbrev pub SmallRefusal : Answer → Type 0
-SmallRefusal (Refused n) = n < 10000000000
-SmallRefusal (Judged j) = Unit {0}
 
 verdict_some : (v : Verdict) → (1 ≤ verdict_number v) × (verdict_number v ≤ 3)
 verdict_some Holds = (omega arith, omega arith)
 verdict_some Fails = (omega arith, omega arith)
 verdict_some Open = (omega arith, omega arith)
 
+abbrev verdict_at : ℕ → Verdict
+verdict_at n = get_or (Holds ∷ Fails ∷ Open ∷ []) (n - 1) Open
+
+verdict_back : (v : Verdict) → verdict_at (verdict_number v) ≡ v
+verdict_back Holds = refl
+verdict_back Fails = refl
+verdict_back Open = refl
+
 verdict_same : (v w : Verdict) → verdict_number v ≡ verdict_number w → v ≡ w
-verdict_same Holds Holds e = refl
-verdict_same Fails Fails e = refl
-verdict_same Open Open e = refl
-verdict_same Holds Fails e = absurd (omega arith)
-verdict_same Holds Open e = absurd (omega arith)
-verdict_same Fails Holds e = absurd (omega arith)
-verdict_same Fails Open e = absurd (omega arith)
-verdict_same Open Holds e = absurd (omega arith)
-verdict_same Open Fails e = absurd (omega arith)
+verdict_same v w e = sym (verdict_back v) ∙ ap verdict_at e ∙ verdict_back w
 
 -- a judgement is above every refusal
 above : (j : Judgement) → 10000000000 ≤ judgement_number j
@@ -40,7 +39,7 @@ digits : (c v l h c' v' l' h' : ℕ) → v ≤ 3 → v' ≤ 3 → l ≤ 20000 �
     100000000000 * c + 10000000000 * v + 100000 * l + h ≡ 100000000000 * c' + 10000000000 * v' + 100000 * l' + h' → (c ≡ c') × (v ≡ v') × (l ≡ l') × (h ≡ h')
 digits c v l h c' v' l' h' a a' b b' d d' e = (omega arith, omega arith, omega arith, omega arith)
 
-judgement_tells : (i j : Judgement) → Bounded (Judged i) → Bounded (Judged j) → judgement_number i ≡ judgement_number j → i ≡ j
+judgement_tells : (i j : Judgement) → Bounded (Ok i) → Bounded (Ok j) → judgement_number i ≡ judgement_number j → i ≡ j
 judgement_tells i j (l, h, s, m) (l', h', s', m') e =
     let (c, v, low, high) =
     digits (i.case - 1) (verdict_number i.verdict) i.low i.high (j.case - 1) (verdict_number j.verdict) j.low j.high (verdict_some i.verdict).1 (verdict_some j.verdict).1
@@ -49,9 +48,53 @@ judgement_tells i j (l, h, s, m) (l', h', s', m') e =
     let verdict = verdict_same i.verdict j.verdict v in
     λ n. record { verdict = verdict n; low = low n; high = high n; case = same n }
 
+-- the table read back
+abbrev refusal_at : ℕ → Refusal
+refusal_at n = get_or (SheetBytes ∷ SheetLines ∷ ListingRoom ∷ LineBytes ∷ Form ∷ Range ∷ Edges ∷ WallRatio ∷ LengthRatio ∷ Imperfection ∷ Shortfall ∷ LineRoom ∷ Wind ∷ PlateList ∷ Force ∷ Pressure ∷ []) (n - 1) Pressure
+
+refusal_back : (r : Refusal) → refusal_at (refusal_number r) ≡ r
+refusal_back SheetBytes = refl
+refusal_back SheetLines = refl
+refusal_back ListingRoom = refl
+refusal_back LineBytes = refl
+refusal_back Form = refl
+refusal_back Range = refl
+refusal_back Edges = refl
+refusal_back WallRatio = refl
+refusal_back LengthRatio = refl
+refusal_back Imperfection = refl
+refusal_back Shortfall = refl
+refusal_back LineRoom = refl
+refusal_back Wind = refl
+refusal_back PlateList = refl
+refusal_back Force = refl
+refusal_back Pressure = refl
+
+-- two refusals have two numbers
+pub refusal_same : (r s : Refusal) → refusal_number r ≡ refusal_number s → r ≡ s
+refusal_same r s e = sym (refusal_back r) ∙ ap refusal_at e ∙ refusal_back s
+
+pub refusal_range : (r : Refusal) → (1 ≤ refusal_number r) × (refusal_number r ≤ 16)
+refusal_range SheetBytes = (lit≤ tt, lit≤ tt)
+refusal_range SheetLines = (lit≤ tt, lit≤ tt)
+refusal_range ListingRoom = (lit≤ tt, lit≤ tt)
+refusal_range LineBytes = (lit≤ tt, lit≤ tt)
+refusal_range Form = (lit≤ tt, lit≤ tt)
+refusal_range Range = (lit≤ tt, lit≤ tt)
+refusal_range Edges = (lit≤ tt, lit≤ tt)
+refusal_range WallRatio = (lit≤ tt, lit≤ tt)
+refusal_range LengthRatio = (lit≤ tt, lit≤ tt)
+refusal_range Imperfection = (lit≤ tt, lit≤ tt)
+refusal_range Shortfall = (lit≤ tt, lit≤ tt)
+refusal_range LineRoom = (lit≤ tt, lit≤ tt)
+refusal_range Wind = (lit≤ tt, lit≤ tt)
+refusal_range PlateList = (lit≤ tt, lit≤ tt)
+refusal_range Force = (lit≤ tt, lit≤ tt)
+refusal_range Pressure = (lit≤ tt, lit≤ tt)
+
 -- equal numbers are of equal answers
-pub number_tells : (a b : Answer) → Bounded a → Bounded b → SmallRefusal a → SmallRefusal b → answer_number a ≡ answer_number b → a ≡ b
-number_tells (Refused m) (Refused n) _ _ _ _ e = ap Refused e
-number_tells (Refused m) (Judged j) _ _ small _ e = absurd (omega (arith, above j))
-number_tells (Judged i) (Refused n) _ _ _ small e = absurd (omega (arith, above i))
-number_tells (Judged i) (Judged j) p q _ _ e = ap Judged (judgement_tells i j p q e)
+pub number_tells : (a b : Answer) → Bounded a → Bounded b → answer_number a ≡ answer_number b → a ≡ b
+number_tells (Err r) (Err s) _ _ e = ap Err (refusal_same r s e)
+number_tells (Err r) (Ok j) _ _ e = absurd (omega (arith, refusal_range r, above j))
+number_tells (Ok i) (Err s) _ _ e = absurd (omega (arith, refusal_range s, above i))
+number_tells (Ok i) (Ok j) p q e = ap Ok (judgement_tells i j p q e)

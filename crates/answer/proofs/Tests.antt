@@ -1,18 +1,11 @@
 -- Laws of tests one after the other. Assumes nothing.
 use mathlib.Core.Path.{◌≡◌, sym, ◌∙◌}
-use mathlib.Core.Bool.{Bool, true, false, not}
-use borrow.Author.Tests.{not-true, not-false}
+use mathlib.Core.Bool.{Bool, true, false}
 use Rattle.algebra.specs.Choice.{pick}
 
 -- f is what a function returned of the test t
 pub told : {f t b : Bool} → f ≡ t → f ≡ b → t ≡ b
 told e h = sym e ∙ h
-
-pub told_not : {f t : Bool} → f ≡ t → not f ≡ true → t ≡ false
-told_not {f} e h = sym e ∙ not-true f h
-
-pub told_yes : {f t : Bool} → f ≡ t → not f ≡ false → t ≡ true
-told_yes {f} e h = sym e ∙ not-false f h
 
 pub pick_on : {A : Type 0} {b : Bool} {r x : A} (y : A) → b ≡ true → r ≡ x → r ≡ pick b x y
 pick_on y e f = rw e f

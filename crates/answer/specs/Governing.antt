@@ -2,7 +2,7 @@
 use Rattle.std.specs.Prelude.{ℕ, Bool, List, [], ◌∷◌, ltb}
 use Rattle.algebra.specs.Choice.{pick}
 use Rattle.answer.specs.declared.Verdict.{Verdict}
-use Rattle.answer.specs.declared.Verdict.TheVariants.{Holds, Fails, Open}
+use Rattle.answer.specs.declared.Verdict.TheVariants.{Holds, Open, Fails}
 use Rattle.answer.specs.declared.Judgement.{Judgement}
 
 -- fails is the worst verdict, then open, then holds

@@ -2,17 +2,53 @@
 #![tactic(auto)]
 
 ghost use Rattle.std.specs.Prelude.{◌≡◌, ◌+◌, ◌*◌, ◌≤◌};
-ghost use Rattle.answer.specs.declared.Answer.TheVariants.{Judged};
-ghost use Rattle.answer.specs.Answers.{verdict_number, judgement_number, answer_number};
-ghost use Rattle.answer.specs.Governing.{severity_of, worse_of};
+ghost use Rattle.answer.specs.Answers.{verdict_number, refusal_number, judgement_number, answer_number};
+ghost use Rattle.answer.specs.Governing.{worse_of};
 ghost use Rattle.answer.specs.Answering.{judgement_of, of_case, Bounded};
 
-// What is said of a shell.
-#[derive(Clone, Copy)]
+// What is said of a shell, from the best to the worst: so they are compared.
+#[derive(Clone, Copy, PartialEq, Eq, PartialOrd, Ord)]
 pub enum Verdict {
     Holds,
-    Fails,
     Open,
+    Fails,
+}
+
+// Why a sheet, a line, a record or a list of plates is refused; in C and in a listing each has its number.
+#[derive(Clone, Copy, PartialEq, Eq)]
+pub enum Refusal {
+    // the sheet has too many bytes
+    SheetBytes,
+    // the sheet has too many lines
+    SheetLines,
+    // the listing has no room
+    ListingRoom,
+    // a line has too many bytes
+    LineBytes,
+    // a line is not of the form
+    Form,
+    // a number lies outside its range
+    Range,
+    // the edges are not known
+    Edges,
+    // the radius in wall thicknesses lies outside its range
+    WallRatio,
+    // the length in radii lies outside its range
+    LengthRatio,
+    // an imperfection is too large
+    Imperfection,
+    // the plate may be thinner by too much
+    Shortfall,
+    // a line to be written has no room
+    LineRoom,
+    // the wind's pressure or kind is not allowed
+    Wind,
+    // the list of plates is empty, too long, or does not rise
+    PlateList,
+    // a force is too large
+    Force,
+    // the pressure inside is too high
+    Pressure,
 }
 
 // A judged record: the verdict, L and U in ten-thousandths, and the load case that governs, counted from 1.
@@ -24,33 +60,44 @@ pub struct Judgement {
     pub case: u64,
 }
 
-// The answer to a record: the number of the first check that it breaks, or the judgement.
-#[derive(Clone, Copy)]
-pub enum Answer {
-    Refused(u64),
-    Judged(Judgement),
-}
+// The answer to a record: the judgement, or the first check that it breaks.
+pub type Answer = Result<Judgement, Refusal>;
 
-impl Verdict {
-    // The digit of a verdict in the number of an answer.
-    pub fn number(self) -> u64
-        ensures { (result ≡ verdict_number self) × (result ≤ 3) }
-    {
-        match self {
+// The digit of a verdict in the number of an answer.
+impl From<Verdict> for u64 {
+    ghost from_gives = { λ v n. (n ≡ verdict_number v) × (n ≤ 3) };
+
+    fn from(verdict: Verdict) -> u64 {
+        match verdict {
             Verdict::Holds => 1,
             Verdict::Fails => 2,
             Verdict::Open => 3,
         }
     }
+}
 
-    // How bad it is: fails is the worst, then open, then holds.
-    fn severity(self) -> u64
-        ensures { result ≡ severity_of self }
-    {
-        match self {
-            Verdict::Holds => 0,
-            Verdict::Open => 1,
-            Verdict::Fails => 2,
+// The number of a refusal in the published table.
+impl From<Refusal> for u64 {
+    ghost from_gives = { λ r n. n ≡ refusal_number r };
+
+    fn from(refusal: Refusal) -> u64 {
+        match refusal {
+            Refusal::SheetBytes => 1,
+            Refusal::SheetLines => 2,
+            Refusal::ListingRoom => 3,
+            Refusal::LineBytes => 4,
+            Refusal::Form => 5,
+            Refusal::Range => 6,
+            Refusal::Edges => 7,
+            Refusal::WallRatio => 8,
+            Refusal::LengthRatio => 9,
+            Refusal::Imperfection => 10,
+            Refusal::Shortfall => 11,
+            Refusal::LineRoom => 12,
+            Refusal::Wind => 13,
+            Refusal::PlateList => 14,
+            Refusal::Force => 15,
+            Refusal::Pressure => 16,
         }
     }
 }
@@ -60,24 +107,15 @@ impl Judgement {
     pub fn by_bounds(low: u64, high: u64) -> Self
         ensures { result ≡ judgement_of low high }
     {
-        if high <= 10000 {
-            return Judgement {
-                verdict: Verdict::Holds,
-                low,
-                high,
-                case: 1,
-            };
-        }
-        if 10000 < low {
-            return Judgement {
-                verdict: Verdict::Fails,
-                low,
-                high,
-                case: 1,
-            };
-        }
+        let verdict = if high <= 10000 {
+            Verdict::Holds
+        } else if 10000 < low {
+            Verdict::Fails
+        } else {
+            Verdict::Open
+        };
         Judgement {
-            verdict: Verdict::Open,
+            verdict,
             low,
             high,
             case: 1,
@@ -88,22 +126,14 @@ impl Judgement {
     pub fn of_case(self, case: u64) -> Self
         ensures { result ≡ of_case case self }
     {
-        let verdict = self.verdict;
-        Judgement {
-            verdict,
-            low: self.low,
-            high: self.high,
-            case,
-        }
+        Judgement { case, ..self }
     }
 
     // The one of two that governs: the other only if its verdict is worse.
     pub fn or_worse(self, other: Self) -> Self
         ensures { result ≡ worse_of self other }
     {
-        let mine = self.verdict;
-        let theirs = other.verdict;
-        if mine.severity() < theirs.severity() {
+        if self.verdict < other.verdict {
             return other;
         }
         self
@@ -111,26 +141,23 @@ impl Judgement {
 
     // Load case, verdict, L and U in one number.
     fn number(self) -> u64
-        requires { Bounded (Judged self) }
+        requires { Bounded (Ok self) }
         ensures { result ≡ judgement_number self }
     {
-        let verdict = self.verdict;
         100000000000 * (self.case - 1)
-            + 10000000000 * verdict.number()
+            + 10000000000 * u64::from(self.verdict)
             + 100000 * self.low
             + self.high
     }
 }
 
-impl Answer {
-    // The number that the call from C returns for an answer.
-    pub fn number(self) -> u64
-        requires { Bounded self }
-        ensures { result ≡ answer_number self }
-    {
-        match self {
-            Answer::Refused(n) => n,
-            Answer::Judged(j) => j.number(),
-        }
+// The number that the call from C returns for an answer.
+pub fn number(answer: Answer) -> u64
+    requires { Bounded answer }
+    ensures { result ≡ answer_number answer }
+{
+    match answer {
+        Ok(judgement) => judgement.number(),
+        Err(refusal) => u64::from(refusal),
     }
 }

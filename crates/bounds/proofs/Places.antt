@@ -1,26 +1,29 @@
 -- The place of a number on its grid, and what it says of the limits. Assumes nothing.
 use mathlib.Core.Path.{◌≡◌, sym, ap, subst, ◌∙◌}
 use mathlib.Core.Bool.{Bool, true, false}
-use Prim.Native.Nat.{ℕ, ◌+◌, ◌*◌, ◌≤◌, ◌<◌}
+use Prim.Native.Nat.{ℕ, ◌+◌, ◌*◌, ◌/◌, ◌≤◌, ◌<◌}
 use native.Mathlib.Decide.{dec_lt}
 use native.Mathlib.Omega.{arith}
-use lib.Dec.{leb, lit≤, lit<}
+use lib.Dec.{leb, lit<}
 use Rattle.algebra.specs.Bisection.{Edge}
 use Rattle.cylinder.specs.declared.Cylinder.{Cylinder}
 use Rattle.cylinder.specs.InLimits.{InLimits}
-use Rattle.algebra.specs.Choice.{pick}
 use Rattle.cylinder.specs.Cut.{Cut}
 use Rattle.cylinder.specs.Search.{grid, place}
 use Rattle.cylinder.proofs.Lawful.{Lawful}
 use Rattle.cylinder.proofs.Limits.{sound, axial_lawful, ring_lawful, shear_lawful}
 use Rattle.cylinder.proofs.Far.{axial_far, ring_far, shear_far}
-use Rattle.cylinder.proofs.Placed.{misses_over, placed_reaches, placed_within, placed_over, placed_below}
+use Rattle.cylinder.proofs.Placed.{misses_over, placed_reaches, placed_within, placed_over}
 use Rattle.cylinder.proofs.Search.{part, placed, place_is}
 use Rattle.cylinder.specs.declared.Stress.{Stress}
 use Rattle.cylinder.specs.declared.Stress.TheVariants.{Axial, Ring, Shear}
-use Rattle.ideal.specs.Decision.{cut_of}
-use Rattle.slenderness_grid.specs.Highest.{Highest}
 use Rattle.lengths.specs.Short.{short_of}
+use Rattle.lengths.specs.declared.Branch.{Branch}
+use Rattle.ideal.specs.Decision.{cut_of, cut_at}
+use Rattle.slenderness_grid.specs.Highest.{Highest}
+use Rattle.term.specs.declared.Point.{Point}
+use Rattle.bounds.specs.Spot.{PlaceOf}
+use Rattle.bounds.specs.declared.Placed.{Placed}
 
 -- ---- each slenderness is a number below 536
 
@@ -34,13 +37,6 @@ far_true Axial s ok = axial_far s (sound s ok)
 far_true Ring s ok = ring_far s (sound s ok)
 far_true Shear s ok = shear_far s (sound s ok)
 
-module _ (k : Stress) (b : Bool) (s : Cylinder) (ok : InLimits s) (short : b ≡ short_of k s) where
-  pub lawful : Lawful (cut_of k b s)
-  lawful = subst (λ (x : Bool). Lawful (cut_of k x s)) (sym short) (lawful_true k s ok)
-
-  pub far : (cut_of k b s).reaches 536 1 ≡ false
-  far = ap (λ (x : Bool). (cut_of k x s).reaches 536 1) short ∙ far_true k s ok
-
 -- ---- on the grid
 
 grid_near : (c : Cut) → c.reaches 2 1 ≡ false → 200000000 ≡ grid c
@@ -51,28 +47,30 @@ grid_far : (c : Cut) → c.reaches 2 1 ≡ true → 8000000 ≡ grid c
 unfolding grid
 grid_far c e = rw e
 
-grid_most : (c : Cut) → grid c ≤ 200000000
-unfolding grid
-grid_most c = go (c.reaches 2 1)
-  where
-    go : (b : Bool) → pick b 8000000 200000000 ≤ 200000000
-    go true = lit≤ tt
-    go false = lit≤ tt
+module _ (b : Branch) (own : b.short ≡ short_of b.kind b.shell.cylinder) where
+  abbrev c : Cut
+  c = cut_at b
 
-module _ (c : Cut) (law : Lawful c) (out : c.reaches 536 1 ≡ false) where
-  found : (q k : ℕ) → q ≡ grid c → Edge (λ k. c.reaches k q) k → (q ≡ grid c) × (k ≡ place c (grid c))
-  found q k e h = (e, place_is c law out k (subst (λ (x : ℕ). Edge (λ k. c.reaches k x) k) e h))
+  law : Lawful c
+  law = subst (λ (x : Bool). Lawful (cut_of b.kind x b.shell.cylinder)) (sym own) (lawful_true b.kind b.shell.cylinder b.shell.in_limits)
+
+  out : c.reaches 536 1 ≡ false
+  out = ap (λ (x : Bool). (cut_of b.kind x b.shell.cylinder).reaches 536 1) own ∙ far_true b.kind b.shell.cylinder b.shell.in_limits
+
+  found : (p : Point) → p.q ≡ grid c → Edge (λ k. c.reaches k p.q) p.k → PlaceOf c p
+  found p e h = record { on_grid = e; placed = place_is c law out p.k (subst (λ (x : ℕ). Edge (λ k. c.reaches k x) p.k) e h) }
 
   -- below 2
-  pub found_near : (k : ℕ) → Highest c 200000000 400000000 k → k < 400000000 → (200000000 ≡ grid c) × (k ≡ place c (grid c))
-  found_near k h lt = found 200000000 k (grid_near c below) (record { passes = h.reached; fails = h.missed lt })
+  pub found_near : (p : Point) (k : ℕ) → p.k ≡ k → p.q ≡ 200000000 → Highest c 200000000 400000000 k → k < 400000000 → PlaceOf c p
+  found_near p k ek eq h lt = found p (eq ∙ grid_near c below) (rw (ek, eq) (record { passes = h.reached; fails = h.missed lt }))
     where
       below : c.reaches 2 1 ≡ false
       below = misses_over c law (k + 1) 200000000 2 1 (lit< tt) (omega arith) (h.missed lt)
 
   -- from 2 up
-  pub found_far : (k l : ℕ) → Highest c 200000000 400000000 k → 400000000 ≤ k → Highest c 8000000 4294967295 l → (8000000 ≡ grid c) × (l ≡ place c (grid c))
-  found_far k l h le g = found 8000000 l (grid_far c (law.down k 200000000 2 1 (lit< tt) (omega arith) h.reached)) (record { passes = g.reached; fails = next })
+  pub found_far : (p : Point) (k l : ℕ) → p.k ≡ l → p.q ≡ 8000000 → Highest c 200000000 400000000 k → 400000000 ≤ k → Highest c 8000000 4294967295 l → PlaceOf c p
+  found_far p k l el eq h le g =
+      found p (eq ∙ grid_far c (law.down k 200000000 2 1 (lit< tt) (omega arith) h.reached)) (rw (el, eq) (record { passes = g.reached; fails = next }))
     where
       next : c.reaches (l + 1) 8000000 ≡ false
       next = elim (dec_lt l 4294967295) [
@@ -80,23 +78,24 @@ module _ (c : Cut) (law : Lawful c) (out : c.reaches 536 1 ≡ false) where
         | no ge ↦ misses_over c law 536 1 (l + 1) 8000000 (lit< tt) (omega arith) out
       ]
 
-  -- ---- what the place says
+-- ---- what the place says
 
-  module _ (q k : ℕ) (on : q ≡ grid c) (at : k ≡ place c (grid c)) where
-    grid_small : q ≤ 200000000
-    grid_small = omega (arith, grid_most c)
+module _ (p : Placed) (a b : ℕ) where
+  abbrev s : Cut
+  s = cut_at p.branch
 
-    place_small : k ≤ 107200000000
-    place_small = let lt = placed_below c law (place c (grid c)) (grid c) (part (c.reaches 2 1)) (placed c law out) 536 1 out in omega (arith, grid_most c, lt)
+  abbrev k : ℕ
+  k = place s (grid s)
 
-    pub small : (q ≤ 200000000) × (k ≤ 107200000000)
-    small = (grid_small, place_small)
+  pub at_over : a * p.point.q < p.point.k * b → false ≡ s.within a b
+  at_over lt = sym (placed_over s (law p.branch p.own) k (grid s) (part (s.reaches 2 1)) (placed s (law p.branch p.own) (out p.branch p.own)) a b (rw (p.is_place.on_grid, p.is_place.placed) at lt))
 
-    pub at_reaches : (a b m : ℕ) → 0 < b → 20 * a ≡ m * b → leb (a * q) (k * b) ≡ c.reaches a b
-    at_reaches a b m pos e = rw (on, at) (sym (placed_reaches c law (place c (grid c)) (grid c) (part (c.reaches 2 1)) (placed c law out) a b m pos e))
+  module _ (pos : 0 < b) (e : 20 * a ≡ 20 * a / b * b) where
+    pub at_reaches : leb (a * p.point.q) (p.point.k * b) ≡ s.reaches a b
+    at_reaches =
+        rw (p.is_place.on_grid, p.is_place.placed)
+        (sym (placed_reaches s (law p.branch p.own) k (grid s) (part (s.reaches 2 1)) (placed s (law p.branch p.own) (out p.branch p.own)) a b (20 * a / b) pos e))
 
-    pub at_within : (a b m : ℕ) → 0 < b → 20 * a ≡ m * b → k * b < a * q → true ≡ c.within a b
-    at_within a b m pos e lt = sym (placed_within c law (place c (grid c)) (grid c) (part (c.reaches 2 1)) (placed c law out) a b m pos e (rw (on, at) at lt))
-
-    pub at_over : (a b : ℕ) → a * q < k * b → false ≡ c.within a b
-    at_over a b lt = sym (placed_over c law (place c (grid c)) (grid c) (part (c.reaches 2 1)) (placed c law out) a b (rw (on, at) at lt))
+    pub at_within : p.point.k * b < a * p.point.q → true ≡ s.within a b
+    at_within lt =
+        sym (placed_within s (law p.branch p.own) k (grid s) (part (s.reaches 2 1)) (placed s (law p.branch p.own) (out p.branch p.own)) a b (20 * a / b) pos e (rw (p.is_place.on_grid, p.is_place.placed) at lt))

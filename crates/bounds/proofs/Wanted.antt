@@ -1,16 +1,20 @@
 -- Places that were wanted serve whoever needs no more of them. Assumes nothing.
-use mathlib.Core.Path.{◌≡◌}
-use mathlib.Core.Bool.{true}
-use Prim.Native.Nat.{ℕ, ◌<◌}
-use lib.Dec.{ltb}
 use borrow.Author.Tests.{lt-ltb}
+use Rattle.std.specs.Prelude.{Option, Some, None, MatchOption}
+use Rattle.cylinder.specs.declared.ByStress.{ByStress}
 use Rattle.cylinder.specs.declared.Cylinder.{Cylinder}
-use Rattle.bounds.specs.declared.Spots.{Spots}
-use Rattle.bounds.specs.Spot.{SpotsFor}
+use Rattle.term.specs.declared.Load.{Load}
+use Rattle.bounds.specs.declared.Spot.{Spot}
+use Rattle.bounds.specs.Spot.{SpotsFor, SpotsLoaded, SpotsWanted}
+use Rattle.bounds.specs.Stresses.{loaded}
 
-pub fewer : {s : Cylinder} {A R H B S K : Type 0} {r : Spots} → (B → A) → (S → R) → (K → H) → SpotsFor s A R H r → SpotsFor s B S K r
-fewer f g h o = record { axial = λ b. o.axial (f b); ring = λ b. o.ring (g b); shear = λ b. o.shear (h b) }
+less : (P : Spot → Type 0) {A B : Type 0} (r : Option Spot) → (B → A) → MatchOption r (¬ A) P → MatchOption r (¬ B) P
+less P None f none = λ b. none (f b)
+less P (Some p) f o = o
+
+pub fewer : {s : Cylinder} {A R H B S K : Type 0} (r : ByStress (Option Spot)) → (B → A) → (S → R) → (K → H) → SpotsFor s A R H r → SpotsFor s B S K r
+fewer r f g h o = record { axial = less _ r.axial f o.axial; ring = less _ r.ring g o.ring; shear = less _ r.shear h o.shear }
 
 -- those of stresses above 0
-pub above_zero : {s : Cylinder} {r : Spots} (x y z : ℕ) → SpotsFor s (ltb 0 x ≡ true) (ltb 0 y ≡ true) (ltb 0 z ≡ true) r → SpotsFor s (0 < x) (0 < y) (0 < z) r
-above_zero x y z = fewer (lt-ltb 0 x) (lt-ltb 0 y) (lt-ltb 0 z)
+pub above_zero : {s : Cylinder} (l : ByStress Load) (r : ByStress (Option Spot)) → SpotsWanted s (loaded l) r → SpotsLoaded s l r
+above_zero l r = fewer r (lt-ltb 0 l.axial.num) (lt-ltb 0 l.ring.num) (lt-ltb 0 l.shear.num)

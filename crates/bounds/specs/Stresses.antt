@@ -1,6 +1,7 @@
 -- The three stresses by their kind: one rule for each of slenderness, term and bounds, over the whole-number forms of cylinder's specs.
 -- Nobody has to believe this: cylinder's proofs/SumBounds.antt has that the bounds are right.
-use Rattle.std.specs.Prelude.{◌≡◌, ℕ}
+use Rattle.std.specs.Prelude.{◌≡◌, ℕ, Bool, ◌+◌, ltb}
+use Rattle.cylinder.specs.declared.ByStress.{ByStress}
 use Rattle.cylinder.specs.declared.Cylinder.{Cylinder}
 use Rattle.cylinder.specs.declared.Stress.{Stress}
 use Rattle.cylinder.specs.declared.Stress.TheVariants.{Axial, Ring, Shear}
@@ -11,11 +12,12 @@ use Rattle.cylinder.specs.WholeIdeal.{axial_cut, ring_cut, shear_cut}
 use Rattle.cylinder.specs.WholeCurves as curves
 use Rattle.cylinder.specs.WholeTerm.{Term}
 use Rattle.cylinder.specs.WholeStress.{axial_term, ring_term, shear_term}
-use Rattle.cylinder.specs.Search.{grid, place, most, Pair, term_bounds}
+use Rattle.cylinder.specs.Search.{grid, place, most, Pair, term_bounds, sum_bounds}
 use Rattle.bounds.specs.declared.Limits.{Limits}
 use Rattle.term.specs.declared.Branches.{Branches}
-use Rattle.bounds.specs.declared.Load.{Load}
-pub use Rattle.term.specs.TermOf.{part_of, SmallParts}
+use Rattle.term.specs.declared.Load.{Load}
+use Rattle.bounds.specs.declared.Bounds.{Bounds}
+pub use Rattle.term.specs.TermOf.{part_of}
 
 -- the branches that the answers at the limits give: of κ1, and of κ2
 abbrev pub part1_of : Limits → curves.Part
@@ -34,10 +36,6 @@ pub record Reads (kind : Stress) (l : Limits) (b : Branches) : Type 0 where
   pub long : b.long ≡ l.reaches_three_halves
   pub near : b.near ≡ l.within_quarter
   pub far : b.far ≡ l.reaches_two
-
--- a stress that `term` takes
-abbrev pub Small : Load → Type 0
-Small l = SmallParts l.num l.den
 
 abbrev pub fraction_of : Load → Fraction
 fraction_of l = l.num // l.den
@@ -58,3 +56,23 @@ low_of kind s num den = let c : Cut = slenderness_of kind s in most (term_for ki
 
 abbrev pub pair_of : Stress → Cylinder → Load → Pair
 pair_of kind s l = let c : Cut = slenderness_of kind s in term_bounds (grid c) l.num c (term_for kind s (fraction_of l))
+
+-- the stresses above 0
+abbrev pub loaded : ByStress Load → ByStress Bool
+loaded l = record { axial = ltb 0 l.axial.num; ring = ltb 0 l.ring.num; shear = ltb 0 l.shear.num }
+
+-- bounds as cylinder's Search has them
+abbrev pub as_pair : Bounds → Pair
+as_pair b = record { low = b.low; high = b.high }
+
+-- the terms of three stresses together, in millionths
+abbrev pub terms_of : Cylinder → ByStress Load → Pair
+terms_of s l =
+    let a : Pair = pair_of Axial s l.axial in
+    let r : Pair = pair_of Ring s l.ring in
+    let h : Pair = pair_of Shear s l.shear in
+    record { low = a.low + r.low + h.low; high = a.high + r.high + h.high }
+
+-- L and U under three stresses
+abbrev pub sum_of : ℕ → Cylinder → ByStress Load → Pair
+sum_of more s l = sum_bounds more s (fraction_of l.axial) (fraction_of l.ring) (fraction_of l.shear)

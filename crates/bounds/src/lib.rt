@@ -2,30 +2,25 @@
 // each term from below by one rule, and L and U from the terms. The places depend on the cylinder alone, so several loads share them.
 #![tactic(auto)]
 
-ghost use Rattle.std.specs.Prelude.{◌≡◌, true, leb, ◌+◌, ◌*◌, ◌/◌, ◌≤◌, ◌<◌, min};
-ghost use Rattle.wide.specs.Value.{base};
-ghost use Rattle.guess.specs.Roots.{RootTable};
-ghost use Rattle.cylinder.specs.declared.Stress.TheVariants.{Axial, Ring, Shear};
-ghost use Rattle.cylinder.specs.InLimits.{InLimits};
+ghost use Rattle.std.specs.Prelude.{◌≡◌, true, leb, ◌+◌, ◌*◌, ◌/◌, ◌≤◌, ◌<◌, min, MatchOption};
 ghost use Rattle.cylinder.specs.WholeStress.{excess as excess_of};
-ghost use Rattle.cylinder.specs.Search.{grid, place as place_of, sum_bounds};
 ghost use Rattle.lengths.specs.Short.{short_of};
-ghost use Rattle.ideal.specs.Decision.{cut_of};
-ghost use Rattle.bounds.specs.Ready.{Ready};
+ghost use Rattle.ideal.specs.Decision.{cut_at};
+ghost use Rattle.slenderness_terms.specs.TermsFor.{TermsFor};
+ghost use Rattle.slenderness_grid.specs.Guessed.{GuessFor};
+ghost use Rattle.bounds.specs.Ready.{terms_prop};
 ghost use Rattle.bounds.specs.Sides.{Sides};
-ghost use Rattle.bounds.specs.Spot.{SpotOf, SpotsFor};
-ghost use Rattle.bounds.specs.Stresses.{part1_of, part2_of, part_for, part_of, Reads, SmallParts, Small, low_of, pair_of, fraction_of};
+ghost use Rattle.bounds.specs.Spot.{PlaceOf, SpotOf, LiesFor, SpotsWanted, SpotsLoaded};
+ghost use Rattle.bounds.specs.Stresses.{part1_of, part2_of, part_for, part_of, loaded, as_pair, low_of, pair_of, Reads, terms_of, sum_of};
 
-use cylinder::{Cylinder, Stress};
+use cylinder::{ByStress, Cylinder, Stress, ValidCylinder};
+use guess::Roots;
+use lengths::Branch;
+use slenderness_grid::Grid;
 use slenderness_terms::Terms;
-use term::{Branches, Part};
-
-// A stress of num/den kN/m².
-#[derive(Clone, Copy)]
-pub struct Load {
-    pub num: u64,
-    pub den: u64,
-}
+use std::cmp::Ordering;
+pub use term::Load;
+use term::{Branches, Part, Point, Sample};
 
 // Bounds of a term in millionths, or of the sum in ten-thousandths.
 #[derive(Clone, Copy)]
@@ -34,113 +29,31 @@ pub struct Bounds {
     pub high: u64,
 }
 
-// Where S lies for a stress: from at/grid to (at + 1)/grid, in these branches of the curves.
+// Where S lies for a stress: from k/q to (k + 1)/q, in these branches of the curves.
+// The stress and the shell stay outside: a line's load cases share the places, and each would carry them three times.
 #[derive(Clone, Copy)]
 pub struct Spot {
-    pub grid: u64,
-    pub at: u64,
+    pub point: Point,
     pub branches: Branches,
 }
 
-// That for each stress.
-#[derive(Clone, Copy)]
-pub struct Spots {
-    pub axial: Spot,
-    pub ring: Spot,
-    pub shear: Spot,
-}
-
-// S lies from at/grid to (at + 1)/grid.
-#[derive(Clone, Copy)]
-struct Placed {
-    grid: u64,
-    at: u64,
-}
-
-// What is known of S before it is looked for: the length test, the terms of its comparisons, and a guess.
+// What is known of S before it is looked for: the branch by the length test, the terms of its comparisons, and a guess.
 #[derive(Clone, Copy)]
 struct Prepared {
-    short: bool,
+    branch: Branch,
     terms: Terms,
     near: u64,
+    ghost own: { branch.short ≡ short_of branch.kind branch.shell.cylinder },
+    ghost has_terms: { TermsFor branch.kind branch.short branch.shell.cylinder terms } by { terms_prop branch.kind branch.short branch.shell.cylinder terms },
 }
 
-// That for a stress.
-fn prepare(roots: &[u8; 1024], kind: Stress, s: Cylinder) -> Prepared
-    requires { (InLimits s) × RootTable roots.now }
-    ensures { Ready kind s result }
-{
-    let short = lengths::is_short(kind, s);
-    let terms = slenderness_terms::terms_for(kind, short, s);
-    let near = slenderness_grid::guess_for(roots, kind, short, s, terms);
-    Prepared { short, terms, near }
-}
-
-// Nothing is prepared for a stress that is not wanted.
-fn prepare_for(roots: &[u8; 1024], kind: Stress, s: Cylinder, wanted: bool) -> Prepared
-    requires { (InLimits s) × RootTable roots.now }
-    ensures { wanted ≡ true → Ready kind s result }
-{
-    if wanted {
-        return prepare(roots, kind, s);
-    }
-    let none = interval::of(0);
-    let terms = Terms {
-        c: none,
-        d: none,
-        e: none,
-    };
-    Prepared {
-        short: false,
-        terms,
-        near: 0,
-    }
-}
-
-// The place of S: on a grid of 1/200,000,000 where S is below 2, and of 1/8,000,000 from 2 up.
-fn place(roots: &[u8; 1024], kind: Stress, s: Cylinder, p: Prepared) -> Placed
-    requires { (InLimits s) × (Ready kind s p) × RootTable roots.now }
-    ensures { (result.grid ≡ grid (cut_of kind p.short s)) × (result.at ≡ place_of (cut_of kind p.short s) (grid (cut_of kind p.short s))) × (result.at < base) × (result.grid ≤ 200000000) }
-{
-    let short = p.short;
-    let t = p.terms;
-    let near = p.near;
-    let k = slenderness_grid::highest(roots, kind, short, s, t, 200000000, 400000000, near);
-    if k < 400000000 {
-        return Placed {
-            grid: 200000000,
-            at: k,
-        };
-    }
-    let far = slenderness_grid::highest(roots, kind, short, s, t, 8000000, 4294967295, near / 25);
-    Placed {
-        grid: 8000000,
-        at: far,
-    }
-}
-
-// Whether S, by its place, is a/b or more.
-fn reaches_at(p: Placed, a: u64, b: u64) -> bool
-    requires { (p.grid ≤ 200000000) × (p.at ≤ 107200000000) × (a ≤ 100) × (b ≤ 100) }
-    ensures { result ≡ leb (a * p.grid) (p.at * b) }
-{
-    a * p.grid <= p.at * b
-}
-
-// Whether S is a/b or less, where a/b is a point of the grid: only where S is placed at a/b itself has it to be compared.
-fn within_at(kind: Stress, short: bool, s: Cylinder, p: Placed, a: u64, b: u64) -> bool
-    requires { (InLimits s) × (short ≡ short_of kind s) × (p.grid ≡ grid (cut_of kind short s)) × (p.at ≡ place_of (cut_of kind short s) (grid (cut_of kind short s))) × (a ≤ 100) × (b ≤ 100) × (0 < b) × (20 * a ≡ 20 * a / b * b) }
-    ensures { result ≡ (cut_of kind short s).within a b }
-{
-    let x = p.at * b;
-    let y = a * p.grid;
-    if x < y {
-        return true;
-    }
-    if y < x {
-        return false;
-    }
-    ideal::within(kind, short, s, a, b)
+// S on its grid: from k/q to (k + 1)/q.
+#[derive(Clone, Copy)]
+struct Placed {
+    branch: Branch,
+    point: Point,
+    ghost own: { branch.short ≡ short_of branch.kind branch.shell.cylinder },
+    ghost is_place: { PlaceOf (cut_at branch) point },
 }
 
 // Where S lies to the limits of the curves' branches.
@@ -157,71 +70,144 @@ struct Limits {
     reaches_two: bool,
 }
 
-// The branches of the curves in which S lies, from its place.
-fn branches(kind: Stress, short: bool, s: Cylinder, p: Placed) -> Limits
-    requires { (InLimits s) × (short ≡ short_of kind s) × (p.grid ≡ grid (cut_of kind short s)) × (p.at ≡ place_of (cut_of kind short s) (grid (cut_of kind short s))) }
-    ensures { Sides (cut_of kind short s) result }
+// What is known of S for a stress.
+fn prepare(roots: &Roots, kind: Stress, s: ValidCylinder) -> Prepared
+    ensures branch { (result.branch.kind ≡ kind) × (result.branch.shell ≡ s) }
+    ensures guess { GuessFor kind (short_of kind s.cylinder) s.cylinder result.terms result.near }
 {
-    Limits {
-        within_quarter: within_at(kind, short, s, p, 25, 100),
-        within_two_fifths: within_at(kind, short, s, p, 4, 10),
-        within_one: within_at(kind, short, s, p, 1, 1),
-        within_three_halves: within_at(kind, short, s, p, 15, 10),
-        reaches_six_fifths: reaches_at(p, 12, 10),
-        reaches_three_halves: reaches_at(p, 15, 10),
-        reaches_two: reaches_at(p, 2, 1),
+    let branch = lengths::branch_of(kind, s);
+    let terms = slenderness_terms::terms_for(branch);
+    let near = slenderness_grid::guess_for(roots, branch, terms);
+    Prepared {
+        branch,
+        terms,
+        near,
     }
 }
 
-// The branch of κ1.
-fn first_part(l: Limits) -> Part
-    ensures { part_of result ≡ part1_of l }
-{
-    if l.within_two_fifths {
-        return Part::Plateau;
-    }
-    if l.reaches_six_fifths {
-        return Part::Quadratic;
-    }
-    Part::Line
-}
-
-// The branch of κ2.
-fn second_part(l: Limits) -> Part
-    ensures { part_of result ≡ part2_of l }
-{
-    if l.within_quarter {
-        return Part::Plateau;
-    }
-    if l.within_one {
-        return Part::Line;
-    }
-    if l.within_three_halves {
-        return Part::Cubic;
-    }
-    Part::Quadratic
-}
-
-// The branch of the reduction factor for a stress.
-fn part_for(kind: Stress, l: Limits) -> Part
-    ensures { part_of result ≡ part_for kind l }
-{
-    match kind {
-        Stress::Axial => second_part(l),
-        Stress::Ring => first_part(l),
-        Stress::Shear => first_part(l),
+impl Prepared {
+    // The place of S: on a grid of 1/200,000,000 where S is below 2, and of 1/8,000,000 from 2 up.
+    fn place(self, roots: &Roots) -> Placed
+        ensures { result.branch ≡ self.branch }
+    {
+        let Prepared {
+            branch,
+            terms,
+            near,
+        } = self;
+        let grid = Grid {
+            q: 200000000,
+            cap: 400000000,
+            near,
+        };
+        let fine = slenderness_grid::highest(roots, branch, terms, grid);
+        if fine < grid.cap {
+            let point = Point { k: fine, q: grid.q };
+            return Placed { branch, point };
+        }
+        let grid = Grid {
+            q: 8000000,
+            cap: 4294967295,
+            near: near / 25,
+        };
+        let coarse = slenderness_grid::highest(roots, branch, terms, grid);
+        let point = Point {
+            k: coarse,
+            q: grid.q,
+        };
+        Placed { branch, point }
     }
 }
 
-// The branches of the curves for a stress.
-fn branches_for(kind: Stress, l: Limits) -> Branches
-    ensures { Reads kind l result }
-{
-    Branches {
-        part: part_for(kind, l),
-        long: l.reaches_three_halves,
-        near: l.within_quarter,
-        far: l.reaches_two,
+impl Placed {
+    // Whether S is a/b or more.
+    #[tactic(auto, using(crate::proofs::Places::at_reaches))]
+    fn reaches(self, a: u64, b: u64) -> bool
+        requires { (a ≤ 100) × (b ≤ 100) × (0 < b) × (20 * a ≡ 20 * a / b * b) }
+        ensures { result ≡ (cut_at self.branch).reaches a b }
+    {
+        a * self.point.q <= self.point.k * b
+    }
+
+    // Whether S is a/b or less, where a/b is a point of the grid: only where S is placed at a/b itself has it to be compared.
+    fn within(self, a: u64, b: u64) -> bool
+        requires { (a ≤ 100) × (b ≤ 100) × (0 < b) × (20 * a ≡ 20 * a / b * b) }
+        ensures { result ≡ (cut_at self.branch).within a b }
+    {
+        let x = self.point.k * b;
+        let y = a * self.point.q;
+        match x.cmp(&y) {
+            Ordering::Less => true,
+            Ordering::Greater => false,
+            Ordering::Equal => ideal::within(self.branch, a, b),
+        }
+    }
+
+    // Where S lies to the limits of the branches.
+    fn limits(self) -> Limits
+        ensures { Sides (cut_at self.branch) result }
+    {
+        Limits {
+            within_quarter: self.within(25, 100),
+            within_two_fifths: self.within(4, 10),
+            within_one: self.within(1, 1),
+            within_three_halves: self.within(15, 10),
+            reaches_six_fifths: self.reaches(12, 10),
+            reaches_three_halves: self.reaches(15, 10),
+            reaches_two: self.reaches(2, 1),
+        }
+    }
+}
+
+impl Limits {
+    // The branch of κ1.
+    fn first_part(self) -> Part
+        ensures { part_of result ≡ part1_of self }
+    {
+        if self.within_two_fifths {
+            Part::Plateau
+        } else if self.reaches_six_fifths {
+            Part::Quadratic
+        } else {
+            Part::Line
+        }
+    }
+
+    // The branch of κ2.
+    fn second_part(self) -> Part
+        ensures { part_of result ≡ part2_of self }
+    {
+        if self.within_quarter {
+            Part::Plateau
+        } else if self.within_one {
+            Part::Line
+        } else if self.within_three_halves {
+            Part::Cubic
+        } else {
+            Part::Quadratic
+        }
+    }
+
+    // The branch of the reduction factor for a stress.
+    fn part_for(self, kind: Stress) -> Part
+        ensures { part_of result ≡ part_for kind self }
+    {
+        match kind {
+            Stress::Axial => self.second_part(),
+            Stress::Ring | Stress::Shear => self.first_part(),
+        }
+    }
+
+    // The branches of the curves for a stress.
+    fn branches_for(self, kind: Stress) -> Branches
+        ensures { Reads kind self result }
+    {
+        Branches {
+            part: self.part_for(kind),
+            long: self.reaches_three_halves,
+            near: self.within_quarter,
+            far: self.reaches_two,
+        }
     }
 }
 
@@ -229,119 +215,98 @@ fn branches_for(kind: Stress, l: Limits) -> Branches
 pub fn excess(s: Cylinder) -> u64
     ensures { result ≡ excess_of s }
 {
-    if 1000 < s.imperfection {
-        s.imperfection - 1000
-    } else {
-        0
-    }
+    s.imperfection.saturating_sub(1000)
 }
 
 // Where S lies for a stress.
-fn spot_of(roots: &[u8; 1024], kind: Stress, s: Cylinder, p: Prepared) -> Spot
-    requires { (InLimits s) × (Ready kind s p) × RootTable roots.now }
-    ensures { SpotOf kind s result }
+#[tactic(auto, using(crate::proofs::Stresses::spot_is))]
+fn spot_of(roots: &Roots, p: Prepared) -> Spot
+    ensures { SpotOf p.branch.kind p.branch.shell.cylinder result }
 {
-    let k = place(roots, kind, s, p);
-    let l = branches(kind, p.short, s, k);
-    let grid = k.grid;
-    let at = k.at;
-    let branches = branches_for(kind, l);
-    Spot { grid, at, branches }
+    let placed = p.place(roots);
+    let limits = placed.limits();
+    Spot {
+        point: placed.point,
+        branches: limits.branches_for(p.branch.kind),
+    }
 }
 
-// Nothing is looked for where a stress is not wanted.
-fn spot_for(roots: &[u8; 1024], kind: Stress, s: Cylinder, wanted: bool, p: Prepared) -> Spot
-    requires { (InLimits s) × (wanted ≡ true → Ready kind s p) × RootTable roots.now }
-    ensures { wanted ≡ true → SpotOf kind s result }
+// Which stresses are above 0.
+pub fn loaded(loads: ByStress<Load>) -> ByStress<bool>
+    ensures { result ≡ loaded loads }
 {
-    if wanted {
-        return spot_of(roots, kind, s, p);
-    }
-    let branches = Branches {
-        part: Part::Plateau,
-        long: false,
-        near: false,
-        far: false,
-    };
-    Spot {
-        grid: 0,
-        at: 0,
-        branches,
+    ByStress {
+        axial: 0 < loads.axial.num,
+        ring: 0 < loads.ring.num,
+        shear: 0 < loads.shear.num,
     }
 }
 
 // Where S lies for each stress that is wanted.
-pub fn spots_for(roots: &[u8; 1024], s: Cylinder, axial: bool, ring: bool, shear: bool) -> Spots
-    requires { (InLimits s) × RootTable roots.now }
-    ensures { SpotsFor s (axial ≡ true) (ring ≡ true) (shear ≡ true) result }
+pub fn spots_for(roots: &Roots, s: ValidCylinder, wanted: ByStress<bool>) -> ByStress<Option<Spot>>
+    ensures { SpotsWanted s.cylinder wanted result }
 {
     // all guesses first: none waits for another
-    let x = prepare_for(roots, Stress::Axial, s, axial);
-    let y = prepare_for(roots, Stress::Ring, s, ring);
-    let z = prepare_for(roots, Stress::Shear, s, shear);
-    Spots {
-        axial: spot_for(roots, Stress::Axial, s, axial, x),
-        ring: spot_for(roots, Stress::Ring, s, ring, y),
-        shear: spot_for(roots, Stress::Shear, s, shear, z),
+    let x = wanted.axial.then(|| prepare(roots, Stress::Axial, s));
+    let y = wanted.ring.then(|| prepare(roots, Stress::Ring, s));
+    let z = wanted.shear.then(|| prepare(roots, Stress::Shear, s));
+    ByStress {
+        axial: x.map(|p| spot_of(roots, p)),
+        ring: y.map(|p| spot_of(roots, p)),
+        shear: z.map(|p| spot_of(roots, p)),
     }
 }
 
 // The term of a stress above 0 from below, in millionths, up to 2,000,000.
-fn lowest(roots: &[u8; 1024], kind: Stress, s: Cylinder, num: u64, den: u64, p: Spot) -> u64
-    requires { (InLimits s) × (SmallParts num den) × (SpotOf kind s p) × RootTable roots.now }
-    ensures { result ≡ low_of kind s num den }
+#[tactic(auto, using(crate::proofs::Stresses::term_is))]
+fn lowest(roots: &Roots, kind: Stress, s: ValidCylinder, load: Load, p: Spot) -> u64
+    requires { SpotOf kind s.cylinder p }
+    ensures { result ≡ low_of kind s.cylinder load.num load.den }
 {
-    let b = p.branches;
-    term::low(
-        roots,
-        kind,
-        b,
-        s.yield_stress,
-        num,
-        den,
-        excess(s),
-        p.at,
-        p.grid,
-    )
+    let at = Sample {
+        point: p.point,
+        branches: p.branches,
+        excess: excess(s.cylinder),
+    };
+    term::low(roots, kind, at, s.cylinder.yield_stress, load)
 }
 
 // The term of a stress in millionths: 0 for a stress of 0, else less than 2 over its low bound.
-fn term_bounds(roots: &[u8; 1024], kind: Stress, s: Cylinder, load: Load, p: Spot) -> Bounds
-    requires { (InLimits s) × (Small load) × (0 < load.num → SpotOf kind s p) × RootTable roots.now }
-    ensures { (result.low ≡ (pair_of kind s load).low) × (result.high ≡ (pair_of kind s load).high) × (result.low ≤ 2000000) × (result.high ≤ 2000002) }
+#[tactic(auto, using(crate::proofs::Stresses::low_most, crate::proofs::Stresses::loaded, crate::proofs::Stresses::unloaded))]
+fn term_bounds(
+    roots: &Roots,
+    kind: Stress,
+    s: ValidCylinder,
+    load: Load,
+    spot: Option<Spot>,
+) -> Bounds
+    requires { MatchOption spot (¬ (0 < load.num)) (SpotOf kind s.cylinder) }
+    ensures value { as_pair result ≡ pair_of kind s.cylinder load }
+    ensures few { (result.low ≤ 2000000) × (result.high ≤ 2000002) }
 {
-    if load.num == 0 {
-        return Bounds { low: 0, high: 0 };
+    match spot {
+        Some(p) if 0 < load.num => {
+            let low = lowest(roots, kind, s, load, p);
+            Bounds { low, high: low + 2 }
+        }
+        _ => Bounds { low: 0, high: 0 },
     }
-    let low = lowest(roots, kind, s, load.num, load.den, p);
-    Bounds { low, high: low + 2 }
-}
-
-// x, but at most 20,000.
-fn capped(x: u64) -> u64
-    ensures { result ≡ min 20000 x }
-{
-    if x < 20000 { x } else { 20000 }
 }
 
 // The three terms together, in millionths.
 fn in_millionths(
-    roots: &[u8; 1024],
-    s: Cylinder,
-    p: Spots,
-    axial: Load,
-    ring: Load,
-    shear: Load,
+    roots: &Roots,
+    s: ValidCylinder,
+    spots: ByStress<Option<Spot>>,
+    loads: ByStress<Load>,
 ) -> Bounds
-    requires { (InLimits s) × (Small axial) × (Small ring) × (Small shear) × (SpotsFor s (0 < axial.num) (0 < ring.num) (0 < shear.num) p) × RootTable roots.now }
-    ensures { (result.low ≡ (pair_of Axial s axial).low + (pair_of Ring s ring).low + (pair_of Shear s shear).low) × (result.high ≡ (pair_of Axial s axial).high + (pair_of Ring s ring).high + (pair_of Shear s shear).high) × (result.low ≤ 6000000) × (result.high ≤ 6000006) }
+    requires { SpotsLoaded s.cylinder loads spots }
+    ensures value { as_pair result ≡ terms_of s.cylinder loads }
+    ensures few { (result.low ≤ 6000000) × (result.high ≤ 6000006) }
 {
-    let x = p.axial;
-    let y = p.ring;
-    let z = p.shear;
-    let a = term_bounds(roots, Stress::Axial, s, axial, x);
-    let r = term_bounds(roots, Stress::Ring, s, ring, y);
-    let h = term_bounds(roots, Stress::Shear, s, shear, z);
+    let a = term_bounds(roots, Stress::Axial, s, loads.axial, spots.axial);
+    let r = term_bounds(roots, Stress::Ring, s, loads.ring, spots.ring);
+    let h = term_bounds(roots, Stress::Shear, s, loads.shear, spots.shear);
     Bounds {
         low: a.low + r.low + h.low,
         high: a.high + r.high + h.high,
@@ -350,30 +315,28 @@ fn in_millionths(
 
 // L and U of a cylinder under three stresses from the places of S, with some millionths more on the high side.
 pub fn sum_at(
-    roots: &[u8; 1024],
-    s: Cylinder,
-    p: Spots,
-    axial: Load,
-    ring: Load,
-    shear: Load,
+    roots: &Roots,
+    s: ValidCylinder,
+    spots: ByStress<Option<Spot>>,
+    loads: ByStress<Load>,
     more: u64,
 ) -> Bounds
-    requires { (InLimits s) × (Small axial) × (Small ring) × (Small shear) × (more ≤ 95) × (SpotsFor s (0 < axial.num) (0 < ring.num) (0 < shear.num) p) × RootTable roots.now }
-    ensures { (result.low ≡ (sum_bounds more s (fraction_of axial) (fraction_of ring) (fraction_of shear)).low) × (result.high ≡ (sum_bounds more s (fraction_of axial) (fraction_of ring) (fraction_of shear)).high) }
+    requires { (more ≤ 95) × SpotsLoaded s.cylinder loads spots }
+    ensures { as_pair result ≡ sum_of more s.cylinder loads }
 {
-    let t = in_millionths(roots, s, p, axial, ring, shear);
+    let t = in_millionths(roots, s, spots, loads);
     Bounds {
-        low: capped(t.low / 100),
-        high: capped((t.high + more + 99) / 100),
+        low: u64::min(20000, t.low / 100),
+        high: u64::min(20000, (t.high + more + 99) / 100),
     }
 }
 
 // The same for a single load.
-pub fn of_sum(s: Cylinder, axial: Load, ring: Load, shear: Load, more: u64) -> Bounds
-    requires { (InLimits s) × (Small axial) × (Small ring) × (Small shear) × (more ≤ 95) }
-    ensures { (result.low ≡ (sum_bounds more s (fraction_of axial) (fraction_of ring) (fraction_of shear)).low) × (result.high ≡ (sum_bounds more s (fraction_of axial) (fraction_of ring) (fraction_of shear)).high) }
+pub fn of_sum(s: ValidCylinder, loads: ByStress<Load>, more: u64) -> Bounds
+    requires { more ≤ 95 }
+    ensures { as_pair result ≡ sum_of more s.cylinder loads }
 {
-    let roots = guess::root_table();
-    let p = spots_for(&roots, s, 0 < axial.num, 0 < ring.num, 0 < shear.num);
-    sum_at(&roots, s, p, axial, ring, shear, more)
+    let roots = Roots::new();
+    let spots = spots_for(&roots, s, loaded(loads));
+    sum_at(&roots, s, spots, loads, more)
 }

@@ -1,14 +1,14 @@
 // The calls from C (SCOPE 13, 20.7, 21.5, 22.9, 22.10, 24.9, 25.8, 25.9, 26.8 and 26.9).
 #![tactic(auto)]
 
-ghost use Rattle.std.specs.Prelude.{◌≡◌, List, ℕ};
+ghost use Rattle.std.specs.Prelude.{◌≡◌, List, ℕ, Some, length};
 ghost use Rattle.answer.specs.Answers.{answer_number};
 ghost use Rattle.answer.specs.Right.{NumberOfRight};
 ghost use Rattle.pressure.specs.declared.Order.TheVariants.{PressureFirst};
 ghost use Rattle.record.specs.declared.Ring.TheVariants.{Stress, Wind};
-ghost use Rattle.record.specs.declared.Inner.TheVariants.{Given};
 ghost use Rattle.cases.specs.Cases.{one_case};
-ghost use Rattle.cases.specs.Numbers.{groups_from, inner_from, cases_from};
+ghost use Rattle.cases.specs.Numbers.{first_from, groups_from, inner_from, cases_from};
+ghost use Rattle.cases.specs.Answering.{load_cases, count_of};
 ghost use Rattle.record.specs.Limits.{record_of, with_inner};
 ghost use Rattle.reading.specs.Answers.{RightLine};
 ghost use Rattle.reading.specs.Answering.{answer_to};
@@ -19,11 +19,61 @@ ghost use Rattle.writer.specs.Writer.{writing};
 ghost use Rattle.plates.specs.Plates.{shell_of, forces_of, chosen_number, NumberOfChoice};
 ghost use Rattle.plates.specs.Choosing.{plate_judgement, choosing};
 
-use cases::{Cases, list_of};
+use cases::{Cases, Groups, list_of};
 use plates::{Forces, Shell, choose};
 use pressure::Order;
-use record::{Inner, Record, Ring, Wall};
+use record::{Group, Record, Ring, Wall};
 use writer::write;
+
+// The record of a call's numbers, without a pressure inside.
+fn record_from(
+    r: u64,
+    t: u64,
+    l: u64,
+    e: u64,
+    fy: u64,
+    edges: u64,
+    a: u64,
+    sx: u64,
+    ring: Ring,
+    tau: u64,
+    d: u64,
+) -> Record
+    ensures { result ≡ record_of r t l e fy edges a sx ring tau d }
+{
+    let wall = Wall {
+        radius: r,
+        thickness: t,
+        length: l,
+        modulus: e,
+        yield_stress: fy,
+        edges,
+        imperfection: a,
+        shortfall: d,
+    };
+    let group = Group {
+        axial: sx,
+        ring,
+        shear: tau,
+    };
+    Record::of(wall, group)
+}
+
+// Puts the line of load cases at the start of `out`, and answers the number of the writer's answer.
+fn write_cases(out: &mut [u8], c: &Cases) -> u64
+    ensures number_of_writing { NumberOfWriting (load_cases c.now) out.old out.new result }
+    ensures fact { ◌≡◌ {A = ℕ × List ℕ} (result, out.new) (numbered (writing (load_cases c.now) out.old)) }
+{
+    writer::number(write(out, c))
+}
+
+// The same of a record.
+fn write_record(out: &mut [u8], c: Record) -> u64
+    ensures number_of_writing { NumberOfWriting (one_case c) out.old out.new result }
+    ensures fact { ◌≡◌ {A = ℕ × List ℕ} (result, out.new) (numbered (writing (one_case c) out.old)) }
+{
+    write_cases(out, &Cases::of_record(c))
+}
 
 // The numbers of a line, but the shortfall last, and the number of the answer. Nothing is changed.
 #[unsafe(no_mangle)]
@@ -43,8 +93,8 @@ pub extern "C" fn shell_judge(
     ensures value { result ≡ answer_number (record_answer PressureFirst (record_of r t l e fy edges a sx (Stress sphi) tau d)) }
     ensures number_of_right { NumberOfRight (Right PressureFirst (record_of r t l e fy edges a sx (Stress sphi) tau d)) result }
 {
-    let given = Record::judge(r, t, l, e, fy, edges, a, sx, Ring::Stress(sphi), tau, d);
-    given.number()
+    let given = record_from(r, t, l, e, fy, edges, a, sx, Ring::Stress(sphi), tau, d);
+    answer::number(given.answer(Order::PressureFirst))
 }
 
 // The same numbers, and the number of the writer's answer: the line is put at the start of `out`, or nothing is changed.
@@ -66,9 +116,8 @@ pub extern "C" fn shell_write(
     ensures number_of_writing { NumberOfWriting (one_case (record_of r t l e fy edges a sx (Stress sphi) tau d)) out.old out.new result }
     ensures fact { ◌≡◌ {A = ℕ × List ℕ} (result, out.new) (numbered (writing (one_case (record_of r t l e fy edges a sx (Stress sphi) tau d)) out.old)) }
 {
-    let c = Record::of(r, t, l, e, fy, edges, a, sx, Ring::Stress(sphi), tau, d);
-    let put = write(out, Cases::of_record(c));
-    put.number()
+    let c = record_from(r, t, l, e, fy, edges, a, sx, Ring::Stress(sphi), tau, d);
+    write_record(out, c)
 }
 
 // The same with w and v of wind in the place of the ring stress.
@@ -91,9 +140,8 @@ pub extern "C" fn shell_write_wind(
     ensures number_of_writing { NumberOfWriting (one_case (record_of r t l e fy edges a sx (Wind w v) tau d)) out.old out.new result }
     ensures fact { ◌≡◌ {A = ℕ × List ℕ} (result, out.new) (numbered (writing (one_case (record_of r t l e fy edges a sx (Wind w v) tau d)) out.old)) }
 {
-    let c = Record::of(r, t, l, e, fy, edges, a, sx, Ring::Wind(w, v), tau, d);
-    let put = write(out, Cases::of_record(c));
-    put.number()
+    let c = record_from(r, t, l, e, fy, edges, a, sx, Ring::Wind(w, v), tau, d);
+    write_record(out, c)
 }
 
 // A shell without thickness, shortfall and stresses, three line forces and a list of plates, and the number of the choice. Nothing is changed.
@@ -126,8 +174,7 @@ pub extern "C" fn shell_choose_plate(
         ring: nphi,
         shear: nxphi,
     };
-    let c = choose(s, f, plates);
-    c.number()
+    plates::number(choose(s, f, plates))
 }
 
 // The bytes of one line, and the number of the answer to it. Nothing is changed.
@@ -136,8 +183,7 @@ pub extern "C" fn shell_judge_line(line: &[u8]) -> u64
     ensures value { result ≡ answer_number (answer_to PressureFirst line.now) }
     ensures number_of_right { NumberOfRight (RightLine PressureFirst line.now) result }
 {
-    let given = sheet::answer(line, Order::PressureFirst);
-    given.number()
+    answer::number(sheet::answer(line, Order::PressureFirst))
 }
 
 // As shell_write, with a pressure of p inside.
@@ -157,12 +203,11 @@ pub extern "C" fn shell_write_inner(
     d: u64,
     p: u64,
 ) -> u64
-    ensures number_of_writing { NumberOfWriting (one_case (with_inner (Given p) (record_of r t l e fy edges a sx (Stress sphi) tau d))) out.old out.new result }
-    ensures fact { ◌≡◌ {A = ℕ × List ℕ} (result, out.new) (numbered (writing (one_case (with_inner (Given p) (record_of r t l e fy edges a sx (Stress sphi) tau d))) out.old)) }
+    ensures number_of_writing { NumberOfWriting (one_case (with_inner (Some p) (record_of r t l e fy edges a sx (Stress sphi) tau d))) out.old out.new result }
+    ensures fact { ◌≡◌ {A = ℕ × List ℕ} (result, out.new) (numbered (writing (one_case (with_inner (Some p) (record_of r t l e fy edges a sx (Stress sphi) tau d))) out.old)) }
 {
-    let bare = Record::of(r, t, l, e, fy, edges, a, sx, Ring::Stress(sphi), tau, d);
-    let put = write(out, Cases::of_record(bare.under(Inner::Given(p))));
-    put.number()
+    let bare = record_from(r, t, l, e, fy, edges, a, sx, Ring::Stress(sphi), tau, d);
+    write_record(out, bare.under(Some(p)))
 }
 
 // As shell_write_wind, with a pressure of p inside.
@@ -183,22 +228,28 @@ pub extern "C" fn shell_write_wind_inner(
     d: u64,
     p: u64,
 ) -> u64
-    ensures number_of_writing { NumberOfWriting (one_case (with_inner (Given p) (record_of r t l e fy edges a sx (Wind w v) tau d))) out.old out.new result }
-    ensures fact { ◌≡◌ {A = ℕ × List ℕ} (result, out.new) (numbered (writing (one_case (with_inner (Given p) (record_of r t l e fy edges a sx (Wind w v) tau d))) out.old)) }
+    ensures number_of_writing { NumberOfWriting (one_case (with_inner (Some p) (record_of r t l e fy edges a sx (Wind w v) tau d))) out.old out.new result }
+    ensures fact { ◌≡◌ {A = ℕ × List ℕ} (result, out.new) (numbered (writing (one_case (with_inner (Some p) (record_of r t l e fy edges a sx (Wind w v) tau d))) out.old)) }
 {
-    let bare = Record::of(r, t, l, e, fy, edges, a, sx, Ring::Wind(w, v), tau, d);
-    let put = write(out, Cases::of_record(bare.under(Inner::Given(p))));
-    put.number()
+    let bare = record_from(r, t, l, e, fy, edges, a, sx, Ring::Wind(w, v), tau, d);
+    write_record(out, bare.under(Some(p)))
 }
 
 // The pressure inside, or none where there is no group for it.
-fn inner_of(has: u64, p: u64) -> Inner
+fn inner_of(has: u64, p: u64) -> Option<u64>
     ensures { result ≡ inner_from has p }
 {
     if has == 0 {
-        return Inner::Missing;
+        return None;
     }
-    Inner::Given(p)
+    Some(p)
+}
+
+// The load cases of a list of numbers, none where it is no list of them.
+fn groups_of(numbers: &[u64]) -> Groups
+    ensures { result ≡ first_from numbers.now (count_of (length numbers.now)) }
+{
+    list_of(numbers).unwrap_or(Groups::new())
 }
 
 // A wall, load cases as a list of five numbers each, a pressure where has is not 0, and the number of the writer's answer: as shell_write.
@@ -230,16 +281,10 @@ pub extern "C" fn shell_write_cases(
         imperfection: a,
         shortfall: d,
     };
-    let inner = inner_of(has, p);
-    let found = list_of(groups);
-    let groups = found.groups;
-    let count = found.count;
     let c = Cases {
         wall,
-        groups,
-        count,
-        inner,
+        groups: groups_of(groups),
+        inner: inner_of(has, p),
     };
-    let put = write(out, c);
-    put.number()
+    write_cases(out, &c)
 }

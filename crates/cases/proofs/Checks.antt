@@ -8,6 +8,8 @@ use native.Mathlib.Omega.{arith}
 use lib.ListN.{length, take, get_or}
 use lib.Seq.{take-suc}
 use Rattle.algebra.proofs.Tests.{and_true, both_true, and_on, and_off, clash}
+use Rattle.std.specs.Prelude.{Result}
+use Rattle.answer.specs.declared.Refusal.{Refusal}
 use Rattle.answer.specs.Checks.{check}
 use Rattle.answer.specs.Answering.{refusal_by}
 use Rattle.record.specs.declared.Group.{Group}
@@ -67,10 +69,9 @@ stands_next gs a b r all two =
     six : stresses a && stresses b ≡ every stresses (gs ++ (b ∷ []))
     six = ap (λ (x : Bool). x && stresses b) all.stresses_are ∙ sym six'
 
--- the groups of an array, from its first on
-pub stands_start : (gs : List Group) → 0 < length gs → StandsFor (take 1 gs) (get_or gs 0 no_group)
-stands_start [] none = absurd (omega arith)
-stands_start (g ∷ gs) _ = stands_one g
+-- the first groups of a list; before the first, a load case without stress stands for them
+pub stands_none : StandsFor [] no_group
+stands_none = record { stresses_are = refl; wind_is = λ _. refl }
 
 pub stands_step : (gs : List Group) (i : ℕ) (a r : Group) → i < length gs → StandsFor (take i gs) a → Of a (get_or gs i no_group) r → StandsFor (take (i + 1) gs) r
 stands_step gs i a r there all two =
@@ -81,11 +82,11 @@ stands_step gs i a r there all two =
 pub stands_refused : (c : LoadCases) (g : Group) → StandsFor c.groups g → refusal_by (checks (alone c g)) ≡ refusal_by (case_checks c)
 stands_refused c g s = go (every stresses c.groups) refl
   where
-    by : Bool → Bool → ℕ
+    by : Bool → Bool → Result (Unit {0}) Refusal
     by six thirteen =
         refusal_by
-        (check 6 (dimensions c.wall && (material c.wall && six)) ∷ check 7 (edges_known c.wall) ∷ check 11 (shortfall_allowed c.wall) ∷ check 8 (wall_ratio c.wall)
-        ∷ check 9 (length_ratio c.wall) ∷ check 10 (tolerated c.wall) ∷ check 13 thirteen ∷ check 16 (pressure_allowed c.inner) ∷ [])
+        (check Refusal.Range (dimensions c.wall && (material c.wall && six)) ∷ check Refusal.Edges (edges_known c.wall) ∷ check Refusal.Shortfall (shortfall_allowed c.wall) ∷ check Refusal.WallRatio (wall_ratio c.wall)
+        ∷ check Refusal.LengthRatio (length_ratio c.wall) ∷ check Refusal.Imperfection (tolerated c.wall) ∷ check Refusal.Wind thirteen ∷ check Refusal.Pressure (pressure_allowed c.inner) ∷ [])
 
     off : (a b : Bool) → a && (b && false) ≡ false
     off true true = refl

@@ -9,8 +9,9 @@ use borrow.Author.Tests.{leb-true}
 use Rattle.pressure.specs.declared.Order.TheVariants.{ToleranceFirst, PressureFirst}
 use Rattle.pressure.specs.GainTest.{test_ratio, Loses, Doubt}
 use Rattle.pressure.proofs.Orders.{SameBounds, apart}
+use Rattle.std.specs.Prelude.{Ok, Err}
+use Rattle.answer.specs.declared.Refusal.{Refusal}
 use Rattle.answer.specs.declared.Judgement.{Judgement}
-use Rattle.answer.specs.declared.Answer.TheVariants.{Refused, Judged}
 use Rattle.answer.specs.Checks.{FirstBroken, AllPassed}
 use Rattle.answer.specs.Answering.{first_or, refusal_by, of_case, judgement_of}
 use Rattle.answer.proofs.Checks.{first_or_lem, first_broken}
@@ -35,7 +36,7 @@ module _ (c : LoadCases) where
 
   pub cases_same : Same → cases_answer ToleranceFirst c ≡ cases_answer PressureFirst c
   unfolding cases_answer judgements
-  cases_same same = ap (λ (js : List Judgement). first_or Refused (Judged (governs js)) (case_checks c)) (same_judgements same 1 c.groups)
+  cases_same same = ap (λ (js : List Judgement). first_or Err (Ok (governs js)) (case_checks c)) (same_judgements same 1 c.groups)
 
   -- the gain is lost, or a reading is in doubt
   abbrev pub Trouble : Type 0
@@ -56,13 +57,13 @@ module _ (c : LoadCases) where
   -- refusals are the same by both, since no check reads the test
   pub cases_apart : 0 < length c.groups → (cases_answer ToleranceFirst c ≡ cases_answer PressureFirst c) ⊎ Trouble
   unfolding cases_answer
-  cases_apart some = go (first_or_lem (λ n. n) 0 (case_checks c))
+  cases_apart some = go (first_or_lem Err (Ok tt) (case_checks c))
     where
       by : Same ⊎ Trouble → (cases_answer ToleranceFirst c ≡ cases_answer PressureFirst c) ⊎ Trouble
       by (inl same) = inl (cases_same same)
       by (inr trouble) = inr trouble
 
-      go : ((n : ℕ) × (FirstBroken (case_checks c) n × (refusal_by (case_checks c) ≡ n))) ⊎ (AllPassed (case_checks c) × (refusal_by (case_checks c) ≡ 0)) →
+      go : ((n : Refusal) × (FirstBroken (case_checks c) n × (refusal_by (case_checks c) ≡ Err n))) ⊎ (AllPassed (case_checks c) × (refusal_by (case_checks c) ≡ Ok tt)) →
           (cases_answer ToleranceFirst c ≡ cases_answer PressureFirst c) ⊎ Trouble
-      go (inl (n, (broken, e))) = inl (first_broken Refused _ (case_checks c) n broken ∙ sym (first_broken Refused _ (case_checks c) n broken))
+      go (inl (n, (broken, e))) = inl (first_broken Err _ (case_checks c) n broken ∙ sym (first_broken Err _ (case_checks c) n broken))
       go (inr (all, e)) = by (same_or_trouble some all)

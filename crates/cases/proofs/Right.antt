@@ -6,34 +6,32 @@ use mathlib.Core.Logic.{◌⊎◌, ◌↔◌, inl, inr}
 use mathlib.Core.List.{List, [], ◌∷◌}
 use Prim.Native.Nat.{ℕ, zero, suc, ◌+◌, ◌-◌, ◌≤◌, ◌<◌}
 use native.Mathlib.Omega.{arith}
-use lib.ListN.{length, take, get_or}
+use lib.ListN.{length}
 use lib.Dec.{lit≤, lit<}
 use Rattle.pressure.specs.declared.Order.{Order}
 use Rattle.algebra.proofs.Tests.{and_true, both_true}
+use Rattle.std.specs.Prelude.{Option, Ok, Err}
+use Rattle.answer.specs.declared.Refusal.{Refusal}
 use Rattle.answer.specs.declared.Verdict.{Verdict}
 use Rattle.answer.specs.declared.Verdict.TheVariants.{Holds, Fails}
 use Rattle.answer.specs.declared.Judgement.{Judgement}
-use Rattle.answer.specs.declared.Answer.{Answer}
-use Rattle.answer.specs.declared.Answer.TheVariants.{Refused, Judged}
-use Rattle.answer.specs.Answers.{verdict_of}
+use Rattle.answer.specs.Answers.{verdict_of, refusal_number, Answer}
 use Rattle.answer.specs.Governing.{severity_of, governing}
 use Rattle.answer.specs.Checks.{Check, check, FirstBroken, AllPassed}
 use Rattle.answer.specs.Right.{AsCase, refused, judged}
 use Rattle.answer.specs.Answering.{first_or, refusal_by, of_case, Bounded}
-use Rattle.answer.proofs.Checks.{Among, among_every, first_among, numbers, Every, first_or_lem, first_broken, all_passed, refusal_broken}
+use Rattle.answer.proofs.Checks.{Among, Every, among_every, refusals, first_or_lem, first_broken, all_passed, refusal_broken}
 use Rattle.answer.proofs.Right as answers
 use Rattle.answer.proofs.Governing.{All, Numbered, LessBefore, governing_either, governing_first, governing_worst, governing_before, severity_fails, severity_holds}
 use Rattle.record.specs.declared.Wall.{Wall}
 use Rattle.record.specs.declared.Group.{Group}
-use Rattle.record.specs.declared.Inner.{Inner}
 use Rattle.record.specs.declared.Record.{Record}
 use Rattle.record.specs.Limits.{dimensions, material, stresses, edges_known, shortfall_allowed, wall_ratio, length_ratio, tolerated, wind_allowed, pressure_allowed, checks}
 use Rattle.record.specs.Right.{Bounds, Right, MeansFor}
 use Rattle.record.specs.Answering.{judgement_of_record, record_answer}
-use Rattle.record.proofs.Checks.{above_none}
 use Rattle.record.proofs.Right.{bounds_right, verdict_means, holds_at_most}
 use Rattle.cases.specs.Cases.{LoadCases, alone, every, case_checks, EachJudged, Governs, RightCases, At, MeansCases}
-use Rattle.cases.specs.Answering.{no_group, judgements, governs, cases_answer}
+use Rattle.cases.specs.Answering.{judgements, governs, cases_answer}
 use Rattle.cases.proofs.Checks.{stands_some, stands_refused}
 
 -- a test that every group passes is passed by each
@@ -54,7 +52,7 @@ module _ (c : LoadCases) where
       )
 
 -- no check has the number 0
-pub cases_above : (c : LoadCases) → Every (λ m. 0 < m) (numbers (case_checks c))
+pub cases_above : (c : LoadCases) → Every (λ r. 0 < refusal_number r) (refusals (case_checks c))
 cases_above c = (lit< tt, (lit< tt, (lit< tt, (lit< tt, (lit< tt, (lit< tt, (lit< tt, (lit< tt, tt))))))))
 
 -- ---- by either reading of the pressure's test
@@ -115,10 +113,10 @@ module _ (o : Order) where
   module _ (c : LoadCases) where
     -- a judgement of a load case is right for it on a line of its own
     pub alone_right : AllPassed (case_checks c) → (m : ℕ) (g : Group) → At c.groups m g → (k : Judgement) → Bounds o (alone c g) k → k.verdict ≡ verdict_of k.low k.high →
-        Right o (alone c g) (Judged (of_case 1 k))
+        Right o (alone c g) (Ok (of_case 1 k))
     alone_right all m g at k b v = judged (of_case 1 k) (alone_passed c all m g at) (b, refl) v
 
-    pub cases_means : (j : Judgement) → RightCases o c (Judged j) → MeansCases o c j
+    pub cases_means : (j : Judgement) → RightCases o c (Ok j) → MeansCases o c j
     cases_means j (judged _ all r v) =
         let it = governs_at c c.groups r.first r.others r.each in
         let same = sym r.is in
@@ -195,8 +193,8 @@ module _ (o : Order) where
     cases_first = subst (λ (k : Judgement). All (LessBefore k) (r.first ∷ r.others)) (sym r.is) (governing_numbered r.first r.others (each_numbered c 1 c.groups (r.first ∷ r.others) r.each))
 
   -- the same at the place of a load case
-  pub cases_each : (c : LoadCases) (j : Judgement) → RightCases o c (Judged j) → (m : ℕ) (g : Group) → At c.groups m g →
-      (k : Judgement) × (Right o (alone c g) (Judged (of_case 1 k)) × (severity_of k.verdict ≤ severity_of j.verdict) × (m < j.case - 1 → severity_of k.verdict < severity_of j.verdict))
+  pub cases_each : (c : LoadCases) (j : Judgement) → RightCases o c (Ok j) → (m : ℕ) (g : Group) → At c.groups m g →
+      (k : Judgement) × (Right o (alone c g) (Ok (of_case 1 k)) × (severity_of k.verdict ≤ severity_of j.verdict) × (m < j.case - 1 → severity_of k.verdict < severity_of j.verdict))
   cases_each c j (judged _ all r v) m g at =
       let (k, ((le, less), (b, w, is))) =
       at_each c 1 c.groups (r.first ∷ r.others) (λ k. NoWorse j k × LessBefore j k) r.each
@@ -239,21 +237,21 @@ module _ (o : Order) where
     governs_own (h ∷ hs) g at =
         let all = own_all 1 (h ∷ hs) in (governing_either (Own 1 (h ∷ hs)) (of_case 1 (judgement_of_record o (alone c h))) (judgements o c 2 hs) all.0 all.1).1 g at
 
-  module _ (c : LoadCases) (j : Judgement) (is : cases_answer o c ≡ Judged j) where
+  module _ (c : LoadCases) (j : Judgement) (is : cases_answer o c ≡ Ok j) where
     -- no check is broken, and j governs
     pub judged_by : AllPassed (case_checks c) × (governs (judgements o c 1 c.groups) ≡ j)
     unfolding cases_answer judgements
-    judged_by = go (first_or_lem Refused (Judged (governs (judgements o c 1 c.groups))) (case_checks c))
+    judged_by = go (first_or_lem Err (Ok (governs (judgements o c 1 c.groups))) (case_checks c))
       where
-        go : ((n : ℕ) × (FirstBroken (case_checks c) n × (cases_answer o c ≡ Refused n))) ⊎ (AllPassed (case_checks c) × (cases_answer o c ≡ Judged (governs (judgements o c 1 c.groups)))) →
+        go : ((n : Refusal) × (FirstBroken (case_checks c) n × (cases_answer o c ≡ Err n))) ⊎ (AllPassed (case_checks c) × (cases_answer o c ≡ Ok (governs (judgements o c 1 c.groups)))) →
             AllPassed (case_checks c) × (governs (judgements o c 1 c.groups) ≡ j)
-        go (inl (n, (f, e))) = absurd (let z : ◌≡◌ {A = ℕ} 0 1 = cc in omega arith)
+        go (inl (n, (f, e))) = cc
         go (inr (all, e)) = (all, cc)
 
     -- every load case is judged alone
-    pub alone_judged : (m : ℕ) (g : Group) → At c.groups m g → record_answer o (alone c g) ≡ Judged (judgement_of_record o (alone c g))
+    pub alone_judged : (m : ℕ) (g : Group) → At c.groups m g → record_answer o (alone c g) ≡ Ok (judgement_of_record o (alone c g))
     unfolding record_answer
-    alone_judged m g at = all_passed Refused (Judged (judgement_of_record o (alone c g))) (checks (alone c g)) (alone_passed c judged_by.0 m g at)
+    alone_judged m g at = all_passed Err (Ok (judgement_of_record o (alone c g))) (checks (alone c g)) (alone_passed c judged_by.0 m g at)
 
     -- none is worse than the line, and each before the line's case is less severe
     pub cases_alone : (m : ℕ) (g : Group) → At c.groups m g →
@@ -265,43 +263,42 @@ module _ (o : Order) where
         (le, λ h. less (omega arith))
 
     -- a line fails wherever a load case fails alone
-    pub alone_fails : (m : ℕ) (g : Group) → At c.groups m g → (k : Judgement) → record_answer o (alone c g) ≡ Judged k → k.verdict ≡ Fails → j.verdict ≡ Fails
+    pub alone_fails : (m : ℕ) (g : Group) → At c.groups m g → (k : Judgement) → record_answer o (alone c g) ≡ Ok k → k.verdict ≡ Fails → j.verdict ≡ Fails
     alone_fails m g at k e fails =
         let same : judgement_of_record o (alone c g) ≡ k = cc (alone_judged m g at) in
         severity_fails j.verdict (subst (λ (v : Verdict). severity_of v ≤ severity_of j.verdict) (ap (λ (i : Judgement). i.verdict) same ∙ fails) (cases_alone m g at).0)
 
     -- and the one that governs has the line's verdict, L and U alone
-    pub governing_alone : (g : Group) → At c.groups (j.case - 1) g → record_answer o (alone c g) ≡ Judged (of_case 1 j)
+    pub governing_alone : (g : Group) → At c.groups (j.case - 1) g → record_answer o (alone c g) ≡ Ok (of_case 1 j)
     governing_alone g at =
         alone_judged (j.case - 1) g at
-        ∙ ap Judged (subst (λ (i : Judgement). At c.groups (i.case - 1) g → judgement_of_record o (alone c g) ≡ of_case 1 i) judged_by.1 (governs_own c c.groups g) at)
+        ∙ ap Ok (subst (λ (i : Judgement). At c.groups (i.case - 1) g → judgement_of_record o (alone c g) ≡ of_case 1 i) judged_by.1 (governs_own c c.groups g) at)
 
   -- a load case that is refused alone refuses the line
-  pub alone_refused : (c : LoadCases) (m : ℕ) (g : Group) → At c.groups m g → (n : ℕ) → record_answer o (alone c g) ≡ Refused n → (k : ℕ) × (cases_answer o c ≡ Refused k)
+  pub alone_refused : (c : LoadCases) (m : ℕ) (g : Group) → At c.groups m g → (n : Refusal) → record_answer o (alone c g) ≡ Err n → (k : Refusal) × (cases_answer o c ≡ Err k)
   alone_refused c m g at n e = go (cases_answer o c) refl
     where
-      go : (a : Answer) → cases_answer o c ≡ a → (k : ℕ) × (cases_answer o c ≡ Refused k)
-      go (Refused k) is = (k, is)
-      go (Judged j) is = absurd (let f = alone_judged c j is m g at in let z : ◌≡◌ {A = ℕ} 0 1 = cc in omega arith)
+      go : (a : Answer) → cases_answer o c ≡ a → (k : Refusal) × (cases_answer o c ≡ Err k)
+      go (Err k) is = (k, is)
+      go (Ok j) is = let f = alone_judged c j is m g at in cc
 
   -- and a line that is refused is refused by the number of one of its load cases
-  pub refused_alone : (c : LoadCases) → 0 < length c.groups → (n : ℕ) → cases_answer o c ≡ Refused n → (m : ℕ) × ((g : Group) × (At c.groups m g × (record_answer o (alone c g) ≡ Refused n)))
+  pub refused_alone : (c : LoadCases) → 0 < length c.groups → (n : Refusal) → cases_answer o c ≡ Err n → (m : ℕ) × ((g : Group) × (At c.groups m g × (record_answer o (alone c g) ≡ Err n)))
   unfolding cases_answer record_answer
   refused_alone c some n is =
       let (m, (g, (at, s))) = stands_some c.groups some in
-      let f = broken (first_or_lem Refused (Judged (governs (judgements o c 1 c.groups))) (case_checks c)) in
-      let e : n ≡ refusal_by (checks (alone c g)) = sym (first_broken (λ i. i) 0 (case_checks c) n f) ∙ sym (stands_refused c g s) in
-      let pos = among_every (λ i. 0 < i) (numbers (case_checks c)) n (first_among (case_checks c) n f) (cases_above c) in
-      (m, (g, (at, first_broken Refused (Judged (judgement_of_record o (alone c g))) (checks (alone c g)) n (refusal_broken (checks (alone c g)) (above_none (alone c g)) n e pos))))
+      let f = broken (first_or_lem Err (Ok (governs (judgements o c 1 c.groups))) (case_checks c)) in
+      let e : Err n ≡ refusal_by (checks (alone c g)) = sym (first_broken Err (Ok tt) (case_checks c) n f) ∙ sym (stands_refused c g s) in
+      (m, (g, (at, first_broken Err (Ok (judgement_of_record o (alone c g))) (checks (alone c g)) n (refusal_broken (checks (alone c g)) n e))))
     where
-      broken : ((k : ℕ) × (FirstBroken (case_checks c) k × (cases_answer o c ≡ Refused k))) ⊎ (AllPassed (case_checks c) × (cases_answer o c ≡ Judged (governs (judgements o c 1 c.groups)))) →
+      broken : ((k : Refusal) × (FirstBroken (case_checks c) k × (cases_answer o c ≡ Err k))) ⊎ (AllPassed (case_checks c) × (cases_answer o c ≡ Ok (governs (judgements o c 1 c.groups)))) →
           FirstBroken (case_checks c) n
       broken (inl (k, (f, e))) = let same : k ≡ n = cc in subst (FirstBroken (case_checks c)) same f
-      broken (inr (all, e)) = absurd (let z : ◌≡◌ {A = ℕ} 0 1 = cc in omega arith)
+      broken (inr (all, e)) = cc
 
   -- ---- one load case: the answers are those of its record
 
-  module _ (w : Wall) (g : Group) (i : Inner) where
+  module _ (w : Wall) (g : Group) (i : Option ℕ) where
     abbrev one : LoadCases
     one = record { wall = w; groups = g ∷ []; inner = i }
 
@@ -314,12 +311,12 @@ module _ (o : Order) where
 
     pub one_checks : case_checks one ≡ checks own
     one_checks = λ n.
-        check 6 (dimensions w && (material w && and_on (stresses g) n)) ∷ check 7 (edges_known w) ∷ check 11 (shortfall_allowed w) ∷ check 8 (wall_ratio w) ∷ check 9 (length_ratio w)
-        ∷ check 10 (tolerated w) ∷ check 13 (and_on (wind_allowed g.ring) n) ∷ check 16 (pressure_allowed i) ∷ []
+        check Refusal.Range (dimensions w && (material w && and_on (stresses g) n)) ∷ check Refusal.Edges (edges_known w) ∷ check Refusal.Shortfall (shortfall_allowed w) ∷ check Refusal.WallRatio (wall_ratio w) ∷ check Refusal.LengthRatio (length_ratio w)
+        ∷ check Refusal.Imperfection (tolerated w) ∷ check Refusal.Wind (and_on (wind_allowed g.ring) n) ∷ check Refusal.Pressure (pressure_allowed i) ∷ []
 
     pub one_answer : cases_answer o one ≡ record_answer o own
     unfolding cases_answer record_answer judgements
-    one_answer = ap (first_or Refused (Judged (judgement_of_record o own))) one_checks
+    one_answer = ap (first_or Err (Ok (judgement_of_record o own))) one_checks
 
     pub one_right : (a : Answer) → RightCases o one a ↔ Right o own a
     one_right a = (to a, from a)
@@ -345,34 +342,21 @@ module _ (o : Order) where
 
   module _ (c : LoadCases) where
     -- no other refusal than that of a record
-    pub cases_meets : (n : ℕ) → RightCases o c (Refused n) → Among n (6 ∷ 7 ∷ 11 ∷ 8 ∷ 9 ∷ 10 ∷ 13 ∷ 16 ∷ [])
+    pub cases_meets : (n : Refusal) → RightCases o c (Err n) → Among n
+        (Refusal.Range ∷ Refusal.Edges ∷ Refusal.Shortfall ∷ Refusal.WallRatio ∷ Refusal.LengthRatio ∷ Refusal.Imperfection ∷ Refusal.Wind ∷ Refusal.Pressure ∷ [])
     cases_meets n r = answers.refused_among (case_checks c) (Governs o c) n r
 
-    pub cases_range : (n : ℕ) → RightCases o c (Refused n) → (6 ≤ n) × (n ≤ 16)
-    cases_range n r = among_every (λ m. (6 ≤ m) × (m ≤ 16)) (6 ∷ 7 ∷ 11 ∷ 8 ∷ 9 ∷ 10 ∷ 13 ∷ 16 ∷ []) n (cases_meets n r)
+    pub cases_range : (n : Refusal) → RightCases o c (Err n) → (6 ≤ refusal_number n) × (refusal_number n ≤ 16)
+    cases_range n r = among_every (λ m. (6 ≤ refusal_number m) × (refusal_number m ≤ 16)) (refusals (case_checks c)) n (cases_meets n r)
         ((lit≤ tt, lit≤ tt), ((lit≤ tt, lit≤ tt), ((lit≤ tt, lit≤ tt), ((lit≤ tt, lit≤ tt), ((lit≤ tt, lit≤ tt), ((lit≤ tt, lit≤ tt), ((lit≤ tt, lit≤ tt), ((lit≤ tt, lit≤ tt), tt))))))))
 
     -- L, U and the case fit the number of an answer
     pub cases_bounded : length c.groups ≤ 8 → (a : Answer) → RightCases o c a → Bounded a
     cases_bounded few a r = answers.right_bounded (case_checks c) (Governs o c) (λ j g. limit j g) a r
       where
-        limit : (j : Judgement) → Governs o c j → Bounded (Judged j)
+        limit : (j : Judgement) → Governs o c j → Bounded (Ok j)
         limit j g =
             let it = governs_at c c.groups g.first g.others g.each in
             let lt = at_below c.groups it.m it.g it.at in
-            subst (λ (k : Judgement). Bounded (Judged k)) (sym g.is)
+            subst (λ (k : Judgement). Bounded (Ok k)) (sym g.is)
             (it.bounds.encloses.L-most, it.bounds.encloses.U-most, omega (arith, it.case_is), omega (arith, it.case_is, lt, few))
-
--- ---- the first groups of an array
-
-pub some_taken : (gs : List Group) (n : ℕ) → 0 < n → 0 < length gs → 0 < length (take n gs)
-some_taken [] n some none = absurd (omega arith)
-some_taken (g ∷ gs) zero none some = absurd (omega arith)
-some_taken (g ∷ gs) (suc n) _ _ = omega arith
-
-pub one_taken : (gs : List Group) (n : ℕ) → n ≡ 1 → 0 < length gs → get_or gs 0 no_group ∷ [] ≡ take n gs
-one_taken gs n e some = go gs some ∙ ap (λ (m : ℕ). take m gs) (sym e)
-  where
-    go : (gs : List Group) → 0 < length gs → get_or gs 0 no_group ∷ [] ≡ take 1 gs
-    go [] none = absurd (omega arith)
-    go (g ∷ gs) _ = refl

@@ -10,14 +10,11 @@ use lib.ListN.{length, take, get_or}
 use lib.Dec.{ltb}
 use lib.Seq.{take-suc}
 use borrow.Author.Tests.{lt-ltb}
-use Rattle.cylinder.specs.declared.Cylinder.{Cylinder}
-use Rattle.record.specs.declared.Ring.{Ring}
-use Rattle.record.specs.declared.Ring.TheVariants.{Stress, Wind}
+use Rattle.cylinder.specs.declared.ByStress.{ByStress}
 use Rattle.record.specs.declared.Group.{Group}
-use Rattle.record.specs.Right.{ring_stress}
-use Rattle.cases.specs.declared.Wanted.{Wanted}
+use Rattle.record.specs.Answering.{has_ring}
 use Rattle.cases.specs.Cases.{At}
-use Rattle.cases.specs.Answering.{no_group, has_ring, wanted_too, WantedFor, WantedBy}
+use Rattle.cases.specs.Answering.{no_group, WantedFor, WantedBy}
 
 -- a group of a list with one more is one of the list, or that one
 pub at_next : (gs : List Group) (h : Group) (m : ℕ) (g : Group) → At (gs ++ (h ∷ [])) m g → At gs m g ⊎ (g ≡ h)
@@ -28,17 +25,21 @@ at_next (i ∷ is) h (suc m) g at = at_next is h m g at
 
 or_left : (a b : Bool) → a ≡ true → a || b ≡ true
 or_left true b e = refl
-or_left false b e = absurd (let z : ◌≡◌ {A = ℕ} 0 1 = cc in omega arith)
+or_left false b e = cc
 
 or_right : (a b : Bool) → b ≡ true → a || b ≡ true
 or_right true b e = refl
 or_right false b e = e
 
-wanted_before : (g h : Group) (w : Wanted) → WantedFor g w → WantedFor g (wanted_too w h)
+-- what one more load case needs besides
+abbrev pub wanted_too : ByStress Bool → Group → ByStress Bool
+wanted_too w g = record { axial = w.axial || ltb 0 g.axial; ring = w.ring || has_ring g.ring; shear = w.shear || ltb 0 g.shear }
+
+wanted_before : (g h : Group) (w : ByStress Bool) → WantedFor g w → WantedFor g (wanted_too w h)
 wanted_before g h w k =
     record { axial_is = λ n. or_left _ _ (k.axial_is n); ring_is = λ n. or_left _ _ (k.ring_is n); shear_is = λ n. or_left _ _ (k.shear_is n) }
 
-wanted_here : (g : Group) (w : Wanted) → WantedFor g (wanted_too w g)
+wanted_here : (g : Group) (w : ByStress Bool) → WantedFor g (wanted_too w g)
 wanted_here g w =
     record {
       axial_is = λ n. or_right w.axial (ltb 0 g.axial) (lt-ltb 0 g.axial n);
@@ -46,7 +47,7 @@ wanted_here g w =
       shear_is = λ n. or_right w.shear (ltb 0 g.shear) (lt-ltb 0 g.shear n);
     }
 
-pub wanted_step : (gs : List Group) (i : ℕ) (w r : Wanted) → i < length gs → WantedBy (take i gs) w → r ≡ wanted_too w (get_or gs i no_group) → WantedBy (take (i + 1) gs) r
+pub wanted_step : (gs : List Group) (i : ℕ) (w r : ByStress Bool) → i < length gs → WantedBy (take i gs) w → r ≡ wanted_too w (get_or gs i no_group) → WantedBy (take (i + 1) gs) r
 wanted_step gs i w r there all e m g at =
     subst (WantedFor g) (sym e)
     (⊎_elim (λ before. wanted_before g h w (all m g before)) (λ here. subst (λ (x : Group). WantedFor x (wanted_too w h)) (sym here) (wanted_here h w))
@@ -55,14 +56,8 @@ wanted_step gs i w r there all e m g at =
     h : Group
     h = get_or gs i no_group
 
--- the group at a place of an array
-pub there_at : (gs : List Group) (n i : ℕ) → i < n → i < length gs → At (take n gs) i (get_or gs i no_group)
-there_at [] n i lt none = absurd (omega arith)
-there_at (g ∷ gs) zero i none lt = absurd (omega arith)
-there_at (g ∷ gs) (suc n) zero _ _ = refl
-there_at (g ∷ gs) (suc n) (suc i) lt there = there_at gs n i (omega arith) (omega arith)
-
--- a ring stress above 0 comes from one or from wind
-pub ring_loaded : (s : Cylinder) (r : Ring) → 0 < ring_stress s r → has_ring r ≡ true
-ring_loaded s (Stress σφ) some = lt-ltb 0 σφ some
-ring_loaded s (Wind w v) some = refl
+-- the group at a place of a list
+pub there_at : (gs : List Group) (i : ℕ) → i < length gs → At gs i (get_or gs i no_group)
+there_at [] i none = absurd (omega arith)
+there_at (g ∷ gs) zero _ = refl
+there_at (g ∷ gs) (suc i) there = there_at gs i (omega arith)

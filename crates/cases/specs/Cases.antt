@@ -1,17 +1,16 @@
 -- SCOPE 26.1 to 26.6 and 27.1: many load cases on one shell, their checks, and what is laid down of the answer.
-use Rattle.std.specs.Prelude.{ℕ, zero, suc, ◌-◌, ◌≡◌, Bool, true, ◌&&◌, List, [], ◌∷◌}
+use Rattle.std.specs.Prelude.{ℕ, zero, suc, ◌-◌, ◌≡◌, Bool, true, ◌&&◌, List, [], ◌∷◌, Option}
 use Rattle.pressure.specs.declared.Order.{Order}
 use Rattle.cylinder.specs.Exact.{AtMost}
+use Rattle.answer.specs.declared.Refusal.{Refusal}
 use Rattle.answer.specs.declared.Verdict.TheVariants.{Holds}
 use Rattle.answer.specs.declared.Judgement.{Judgement}
-use Rattle.answer.specs.declared.Answer.{Answer}
-use Rattle.answer.specs.Answers.{verdict_of}
+use Rattle.answer.specs.Answers.{verdict_of, Answer}
 use Rattle.answer.specs.Governing.{governing}
 use Rattle.answer.specs.Checks.{Check, check}
 use Rattle.answer.specs.Right.{RightBy, AsCase}
 use Rattle.record.specs.declared.Wall.{Wall}
 use Rattle.record.specs.declared.Group.{Group}
-use Rattle.record.specs.declared.Inner.{Inner}
 use Rattle.record.specs.declared.Record.{Record}
 use Rattle.record.specs.Limits.{dimensions, material, stresses, edges_known, shortfall_allowed, wall_ratio, length_ratio, tolerated, wind_allowed, pressure_allowed}
 use Rattle.record.specs.Right.{RecordOver, Bounds, MeansFor}
@@ -20,7 +19,7 @@ use Rattle.record.specs.Right.{RecordOver, Bounds, MeansFor}
 pub record LoadCases : Type 0 where
   pub wall : Wall
   pub groups : List Group
-  pub inner : Inner
+  pub inner : Option ℕ
 
 -- one of them on a line of its own
 abbrev pub alone : LoadCases → Group → Record
@@ -37,14 +36,14 @@ every test (g ∷ gs) = test g && every test gs
 -- the checks in their order: each is made on all load cases before the next is made on any
 abbrev pub case_checks : LoadCases → List Check
 case_checks c =
-    check 6 (dimensions c.wall && (material c.wall && every stresses c.groups))
-    ∷ check 7 (edges_known c.wall)
-    ∷ check 11 (shortfall_allowed c.wall)
-    ∷ check 8 (wall_ratio c.wall)
-    ∷ check 9 (length_ratio c.wall)
-    ∷ check 10 (tolerated c.wall)
-    ∷ check 13 (every (λ g. wind_allowed g.ring) c.groups)
-    ∷ check 16 (pressure_allowed c.inner)
+    check Refusal.Range (dimensions c.wall && (material c.wall && every stresses c.groups))
+    ∷ check Refusal.Edges (edges_known c.wall)
+    ∷ check Refusal.Shortfall (shortfall_allowed c.wall)
+    ∷ check Refusal.WallRatio (wall_ratio c.wall)
+    ∷ check Refusal.LengthRatio (length_ratio c.wall)
+    ∷ check Refusal.Imperfection (tolerated c.wall)
+    ∷ check Refusal.Wind (every (λ g. wind_allowed g.ring) c.groups)
+    ∷ check Refusal.Pressure (pressure_allowed c.inner)
     ∷ []
 
 -- a judgement for each load case, numbered from n on: L and U are right for it on a line of its own, and the verdict is that of L and U

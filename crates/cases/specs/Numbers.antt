@@ -1,11 +1,9 @@
 -- SCOPE 26.8: load cases as a list of numbers, as a call from C is lent them.
-use Rattle.std.specs.Prelude.{ℕ, zero, suc, ◌+◌, ◌*◌, ◌/◌, ◌%◌, List, [], ◌∷◌, ◌++◌, length, get_or, eqb}
+use Rattle.std.specs.Prelude.{ℕ, zero, suc, ◌+◌, ◌*◌, ◌/◌, ◌%◌, List, [], ◌∷◌, ◌++◌, length, get_or, eqb, Option, None, Some}
 use Rattle.algebra.specs.Choice.{pick}
 use Rattle.record.specs.declared.Ring.{Ring}
 use Rattle.record.specs.declared.Ring.TheVariants.{Stress, Wind}
 use Rattle.record.specs.declared.Group.{Group}
-use Rattle.record.specs.declared.Inner.{Inner}
-use Rattle.record.specs.declared.Inner.TheVariants.{Missing, Given}
 use Rattle.cases.specs.Cases.{LoadCases}
 
 -- kind 0 is a ring stress of x; any other is wind, with w = x and v = y
@@ -31,11 +29,11 @@ abbrev pub groups_from : List ℕ → List Group
 groups_from ns = pick (eqb (length ns % 5) 0) (first_from ns (length ns / 5)) []
 
 -- a pressure inside, or none
-abbrev pub inner_from : ℕ → ℕ → Inner
-inner_from has p = pick (eqb has 0) Missing (Given p)
+abbrev pub inner_from : ℕ → ℕ → Option ℕ
+inner_from has p = pick (eqb has 0) None (Some p)
 
 -- the load cases of their parts in the order of the call
-abbrev pub cases_from : ℕ → ℕ → ℕ → ℕ → ℕ → ℕ → ℕ → ℕ → List Group → Inner → LoadCases
+abbrev pub cases_from : ℕ → ℕ → ℕ → ℕ → ℕ → ℕ → ℕ → ℕ → List Group → Option ℕ → LoadCases
 cases_from r t l E fy edges a d gs i =
     record {
       wall =

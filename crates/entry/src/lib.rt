@@ -1,55 +1,50 @@
 // Writes the line of a listing for an answer.
 #![tactic(auto)]
 
-ghost use Rattle.std.specs.Prelude.{◌≡◌, ◌+◌, ◌≤◌, length};
-ghost use Rattle.text.specs.Slices.{put};
+ghost use Rattle.text.specs.Pages.{Fits, Puts};
 ghost use Rattle.listing.specs.Listing.{verdict_word, said, entry, ended};
 
 use answer::{Answer, Verdict};
-use text::{put_bytes, put_number};
+use text::Page;
 
-// Writes the word of a verdict.
-pub fn put_word(out: &mut [u8], at: usize, v: Verdict) -> usize
-    requires { at + length (verdict_word v) ≤ length out.old }
-    ensures value { result ≡ at + length (verdict_word v) }
-    ensures out_after { out.new ≡ put out.old at (verdict_word v) }
+// Puts the word of a verdict.
+pub fn put_word(page: &mut Page<'_>, v: Verdict)
+    requires { Fits page.old (verdict_word v) }
+    ensures { Puts page.old (verdict_word v) page.new }
 {
     match v {
-        Verdict::Holds => put_bytes(out, at, b"holds"),
-        Verdict::Fails => put_bytes(out, at, b"fails"),
-        Verdict::Open => put_bytes(out, at, b"open"),
+        Verdict::Holds => page.put(b"holds"),
+        Verdict::Fails => page.put(b"fails"),
+        Verdict::Open => page.put(b"open"),
     }
 }
 
-// Writes what follows the number in the line for an answer.
-fn put_said(out: &mut [u8], at: usize, a: Answer) -> usize
-    requires { at + length (said a) ≤ length out.old }
-    ensures value { result ≡ at + length (said a) }
-    ensures out_after { out.new ≡ put out.old at (said a) }
+// Puts what follows the number in the line for an answer.
+fn put_said(page: &mut Page<'_>, a: Answer)
+    requires { Fits page.old (said a) }
+    ensures { Puts page.old (said a) page.new }
 {
     match a {
-        Answer::Judged(j) => {
-            let b = put_bytes(out, at, b" ");
-            let v = j.verdict;
-            let e = put_word(out, b, v);
-            put_bytes(out, e, b")")
+        Ok(judgement) => {
+            page.put(b" ");
+            put_word(page, judgement.verdict);
         }
-        Answer::Refused(n) => {
-            let b = put_bytes(out, at, b" refused ");
-            let e = put_number(out, b, n);
-            put_bytes(out, e, b")")
+        Err(refusal) => {
+            page.put(b" refused ");
+            page.number(u64::from(refusal));
         }
     }
+    page.put(b")");
 }
 
-// Writes the line for the answer to line k into `out` from `at`, and returns the index after it.
-pub fn put_entry(out: &mut [u8], at: usize, k: u64, a: Answer) -> usize
-    requires { at + length (ended (entry k a)) ≤ length out.old }
-    ensures value { result ≡ at + length (ended (entry k a)) }
-    ensures out_after { out.new ≡ put out.old at (ended (entry k a)) }
+// Puts the line for the answer to line k.
+#[tactic(auto, using(listing::proofs::Lengths::entry_length))]
+pub fn put_entry(page: &mut Page<'_>, k: u64, a: Answer)
+    requires { Fits page.old (ended (entry k a)) }
+    ensures { Puts page.old (ended (entry k a)) page.new }
 {
-    let b = put_bytes(out, at, b"(");
-    let e = put_number(out, b, k);
-    let s = put_said(out, e, a);
-    put_bytes(out, s, b"\n")
+    page.put(b"(");
+    page.number(k);
+    put_said(page, a);
+    page.put(b"\n");
 }

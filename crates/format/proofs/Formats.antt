@@ -16,11 +16,10 @@ use Rattle.text.specs.Slices.{up_to}
 use Rattle.text.proofs.Laws.{up_to_split}
 use Rattle.word.specs.Words.{ends_word}
 use Rattle.word.specs.Numbers.{number_of}
-use Rattle.word.specs.declared.Numeral.{Numeral}
-use Rattle.word.specs.declared.Numeral.TheVariants.{Value, Missing}
+use Rattle.std.proofs.Common.{Option, Some, None}
 use Rattle.word.proofs.Decimal.{number_decimal, decimal_number, word_decimal}
 use Rattle.format.specs.Texts.{Each, each}
-use Rattle.format.specs.Readers.{Found, nothing, found, Reader, on, or_else, starts_with, fixed, empty, number_found, number, sequence, changed, one_of, several, found_some, one_to, before, closed, optional, whole}
+use Rattle.format.specs.Readers.{Found, found, Reader, on, or_else, starts_with, fixed, empty, number_found, number, sequence, changed, one_of, several, found_some, one_to, before, closed, optional, whole}
 
 -- values that are Small, written and followed by bytes that may follow, read as themselves; what reads is such a value's text
 pub record Format {A : Type 0} (Small : A → Type 0) (Follows : List ℕ → Type 0) (written : A → List ℕ) (read : Reader A) : Type 0 where
@@ -36,8 +35,15 @@ abbrev pub both : {A B : Type 0} → (A → List ℕ) → (B → List ℕ) → A
 both w v p = w p.0 ++ v p.1
 
 -- nothing is not something
-differ : {A : Type 0} {C : Type 0} (a : A) (rest : List ℕ) → nothing ≡ found a rest → C
+differ : {A : Type 0} {C : Type 0} (a : A) (rest : List ℕ) → None ≡ found a rest → C
 differ a rest e = absurd (let z : ◌≡◌ {A = ℕ} 0 1 = cc in omega arith)
+
+-- what was found is one value, and one rest
+pub same_value : {A : Type 0} {a b : A} {r s : List ℕ} → found a r ≡ found b s → a ≡ b
+same_value {A} {a} {b} {r} {s} e = let both : (a, r) ≡ (b, s) = cc in ap (λ (p : A × List ℕ). p.0) both
+
+pub same_rest : {A : Type 0} {a b : A} {r s : List ℕ} → found a r ≡ found b s → r ≡ s
+same_rest {A} {a} {b} {r} {s} e = let both : (a, r) ≡ (b, s) = cc in ap (λ (p : A × List ℕ). p.1) both
 
 -- ---- no bytes, fixed bytes, a number
 
@@ -49,7 +55,7 @@ nil u = []
 
 format_empty : (Follows : List ℕ → Type 0) → Format Always Follows nil empty
 unfolding empty
-format_empty Follows = record { complete = λ a rest small follows. refl; sound = λ s a rest e. (tt, let same : s ≡ rest = cc in same) }
+format_empty Follows = record { complete = λ a rest small follows. refl; sound = λ s a rest e. (tt, let same : s ≡ rest = same_rest e in same) }
 
 starts_append : (w s : List ℕ) → starts_with w (w ++ s) ≡ true
 unfolding starts_with
@@ -74,8 +80,8 @@ format_fixed w =
       sound = λ s a rest e. go s a rest (starts_with w s) refl e;
     }
   where
-    go : (s : List ℕ) (a : Unit {0}) (rest : List ℕ) (t : Bool) → starts_with w s ≡ t → pick t (found tt (drop (length w) s)) nothing ≡ found a rest → Unit {0} × (s ≡ w ++ rest)
-    go s a rest true p q = let same : drop (length w) s ≡ rest = cc in (tt, starts_split w s p ∙ ap (λ (l : List ℕ). w ++ l) same)
+    go : (s : List ℕ) (a : Unit {0}) (rest : List ℕ) (t : Bool) → starts_with w s ≡ t → pick t (found tt (drop (length w) s)) None ≡ found a rest → Unit {0} × (s ≡ w ++ rest)
+    go s a rest true p q = let same : drop (length w) s ≡ rest = same_rest q in (tt, starts_split w s p ∙ ap (λ (l : List ℕ). w ++ l) same)
     go s a rest false p q = differ a rest q
 
 -- the bytes begin with one that ends a word
@@ -95,13 +101,13 @@ format_number = record { complete = whole; sound = λ s n rest e. go s n rest (n
         → number_found (number_of (up_to ends_word (decimal n ++ rest))) (drop (length (up_to ends_word (decimal n ++ rest))) (decimal n ++ rest)) ≡ found n rest
     whole n rest small follows = rw (cut n rest follows, number_decimal n small, drop-append_seam (decimal n) rest) refl
 
-    go : (s : List ℕ) (n : ℕ) (rest : List ℕ) (o : Numeral) → number_of (up_to ends_word s) ≡ o → number_found o (drop (length (up_to ends_word s)) s) ≡ found n rest
+    go : (s : List ℕ) (n : ℕ) (rest : List ℕ) (o : Option ℕ) → number_of (up_to ends_word s) ≡ o → number_found o (drop (length (up_to ends_word s)) s) ≡ found n rest
         → (n < 10000000) × (s ≡ decimal n ++ rest)
-    go s n rest Missing p q = differ n rest q
-    go s n rest (Value m) p q =
-        let is : m ≡ n = cc in
-        let same : drop (length (up_to ends_word s)) s ≡ rest = cc in
-        let (word, below) = decimal_number (up_to ends_word s) n (p ∙ ap Value is) in
+    go s n rest None p q = differ n rest q
+    go s n rest (Some m) p q =
+        let is : m ≡ n = same_value q in
+        let same : drop (length (up_to ends_word s)) s ≡ rest = same_rest q in
+        let (word, below) = decimal_number (up_to ends_word s) n (p ∙ ap Some is) in
         (below, up_to_split ends_word s ∙ rw (same, word) refl)
 
 -- ---- one after the other: what the second writes may follow the first
@@ -118,18 +124,18 @@ module _ {A B : Type 0} {S : A → Type 0} {F : List ℕ → Type 0} {w : A → 
       }
     where
       next : (s : List ℕ) (p : A × B) (rest : List ℕ) (a : A) (r : List ℕ) → f s ≡ found a r → (o : Found B) → g r ≡ o → on o (λ b rest'. found (a, b) rest') ≡ found p rest → Both S T p × (s ≡ both w v p ++ rest)
-      next s p rest a r e nothing e' q = differ p rest q
-      next s p rest a r e (found b r') e' q =
-          let is : (a, b) ≡ p = cc in
-          let same : r' ≡ rest = cc in
+      next s p rest a r e None e' q = differ p rest q
+      next s p rest a r e (Some (b, r')) e' q =
+          let is : (a, b) ≡ p = same_value q in
+          let same : r' ≡ rest = same_rest q in
           let (small, here) = first.sound s a r e in
           let (small', there) = second.sound r b r' e' in
           subst (λ (p : A × B). Both S T p × (s ≡ both w v p ++ rest)) is
           ((small, small'), here ∙ rw (there, same, append_assoc (w a) (v b) rest) refl)
 
       go : (s : List ℕ) (p : A × B) (rest : List ℕ) (o : Found A) → f s ≡ o → on o (λ a r. on (g r) (λ b rest'. found (a, b) rest')) ≡ found p rest → Both S T p × (s ≡ both w v p ++ rest)
-      go s p rest nothing e q = differ p rest q
-      go s p rest (found a r) e q = next s p rest a r e (g r) refl q
+      go s p rest None e q = differ p rest q
+      go s p rest (Some (a, r)) e q = next s p rest a r e (g r) refl q
 
 -- ---- the same text, for another value, by two functions that are each other's inverse
 
@@ -144,10 +150,10 @@ module _ {A B : Type 0} {S : A → Type 0} {F : List ℕ → Type 0} {w : A → 
       }
     where
       go : (s : List ℕ) (b : B) (rest : List ℕ) (o : Found A) → f s ≡ o → on o (λ a r. found (to a) r) ≡ found b rest → S (from b) × (s ≡ w (from b) ++ rest)
-      go s b rest nothing e q = differ b rest q
-      go s b rest (found a r) e q =
-          let is : to a ≡ b = cc in
-          let same : r ≡ rest = cc in
+      go s b rest None e q = differ b rest q
+      go s b rest (Some (a, r)) e q =
+          let is : to a ≡ b = same_value q in
+          let same : r ≡ rest = same_rest q in
           let back : a ≡ from b = sym (from-to a) ∙ ap from is in
           let (small, here) = of.sound s a r e in
           (subst (λ (x : A). S x) back small, here ∙ rw (same, back) refl)
@@ -160,7 +166,7 @@ Kinds {A} {B} {C} h k = (c : C) → ((a : A) × (h a ≡ c)) ⊎ ((b : B) × (k 
 
 module _ {A B C : Type 0} {S : C → Type 0} {w : C → List ℕ} {F G : List ℕ → Type 0} {f : Reader A} {g : Reader B} (h : A → C) (k : B → C) (kinds : Kinds h k)
     (first : Format (λ a. S (h a)) F (λ a. w (h a)) f) (second : Format (λ b. S (k b)) G (λ b. w (k b)) g) where
-  pub format_one_of : ((b : B) (rest : List ℕ) → S (k b) → G rest → f (w (k b) ++ rest) ≡ nothing) → Format S (λ rest. F rest × G rest) w (one_of h k f g)
+  pub format_one_of : ((b : B) (rest : List ℕ) → S (k b) → G rest → f (w (k b) ++ rest) ≡ None) → Format S (λ rest. F rest × G rest) w (one_of h k f g)
   unfolding one_of
   format_one_of apart = record { complete = λ c rest small follows. whole c rest small follows (kinds c); sound = λ s c rest e. go s c rest (f s) refl (g s) refl e }
     where
@@ -174,14 +180,14 @@ module _ {A B C : Type 0} {S : C → Type 0} {w : C → List ℕ} {F G : List �
 
       go : (s : List ℕ) (c : C) (rest : List ℕ) (o : Found A) → f s ≡ o → (o' : Found B) → g s ≡ o'
           → or_else o (λ a r. found (h a) r) (on o' (λ b r. found (k b) r)) ≡ found c rest → S c × (s ≡ w c ++ rest)
-      go s c rest nothing e nothing e' q = differ c rest q
-      go s c rest nothing e (found b r) e' q =
-          let is : k b ≡ c = cc in
-          let same : r ≡ rest = cc in
+      go s c rest None e None e' q = differ c rest q
+      go s c rest None e (Some (b, r)) e' q =
+          let is : k b ≡ c = same_value q in
+          let same : r ≡ rest = same_rest q in
           subst (λ (c : C). S c × (s ≡ w c ++ rest)) is (second.sound s b rest (e' ∙ ap (λ (l : List ℕ). found b l) same))
-      go s c rest (found a r) e o' e' q =
-          let is : h a ≡ c = cc in
-          let same : r ≡ rest = cc in
+      go s c rest (Some (a, r)) e o' e' q =
+          let is : h a ≡ c = same_value q in
+          let same : r ≡ rest = same_rest q in
           subst (λ (c : C). S c × (s ≡ w c ++ rest)) is (first.sound s a rest (e ∙ ap (λ (l : List ℕ). found a l) same))
 
 -- ---- values one after the other: one may follow another, and none is found in what follows the last
@@ -192,8 +198,8 @@ module _ {A : Type 0} {S : A → Type 0} {F : List ℕ → Type 0} {w : A → Li
 
   no_parts : (k : ℕ) (s : List ℕ) (l : List A) (rest : List ℕ) → found [] s ≡ found l rest → Parts k s l rest
   no_parts k s l rest e =
-      let is : [] ≡ l = cc in
-      let same : s ≡ rest = cc in
+      let is : [] ≡ l = same_value e in
+      let same : s ≡ rest = same_rest e in
       subst (λ (l : List A). Parts k s l rest) is ((omega arith, tt), same)
 
   parts : (k : ℕ) (s : List ℕ) (l : List A) (rest : List ℕ) → several k f s ≡ found l rest → Parts k s l rest
@@ -205,25 +211,25 @@ module _ {A : Type 0} {S : A → Type 0} {F : List ℕ → Type 0} {w : A → Li
       More = (r : List ℕ) (m : List A) (r' : List ℕ) → several k f r ≡ found m r' → Parts k r m r'
 
       next : More → (a : A) (r : List ℕ) → f s ≡ found a r → (o : Found (List A)) → several k f r ≡ o → on o (λ m rest'. found (a ∷ m) rest') ≡ found l rest → Parts (suc k) s l rest
-      next more a r e nothing e' q = differ l rest q
-      next more a r e (found m r') e' q =
-          let is : a ∷ m ≡ l = cc in
-          let same : r' ≡ rest = cc in
+      next more a r e None e' q = differ l rest q
+      next more a r e (Some (m, r')) e' q =
+          let is : a ∷ m ≡ l = same_value q in
+          let same : r' ≡ rest = same_rest q in
           let (small, here) = one.sound s a r e in
           let ((few, smalls), there) = more r m r' e' in
           subst (λ (l : List A). Parts (suc k) s l rest) is
           ((omega arith, (small, smalls)), here ∙ rw (there, same) (sym (append_assoc (w a) (each w m) rest)))
 
       go : More → (o : Found A) → f s ≡ o → or_else o (λ a rest. on (several k f rest) (λ l rest'. found (a ∷ l) rest')) (found [] s) ≡ found l rest → Parts (suc k) s l rest
-      go more nothing e q = no_parts (suc k) s l rest q
-      go more (found a r) e q = next more a r e (several k f r) refl q
+      go more None e q = no_parts (suc k) s l rest q
+      go more (Some (a, r)) e q = next more a r e (several k f r) refl q
 
   module _ (glue : (a : A) (rest : List ℕ) → S a → F rest → F (w a ++ rest)) where
     follow : (l : List A) (rest : List ℕ) → Each S l → F rest → F (each w l ++ rest)
     follow [] rest small follows = follows
     follow (a ∷ l) rest small follows = rw (append_assoc (w a) (each w l) rest) (glue a (each w l ++ rest) small.0 (follow l rest small.1 follows))
 
-    all : (k : ℕ) (l : List A) (rest : List ℕ) → length l ≤ k → Each S l → F rest → f rest ≡ nothing → several k f (each w l ++ rest) ≡ found l rest
+    all : (k : ℕ) (l : List A) (rest : List ℕ) → length l ≤ k → Each S l → F rest → f rest ≡ None → several k f (each w l ++ rest) ≡ found l rest
     unfolding several
     all zero [] rest few small follows end = refl
     all zero (a ∷ l) rest few small follows end = absurd (omega arith)
@@ -231,27 +237,27 @@ module _ {A : Type 0} {S : A → Type 0} {F : List ℕ → Type 0} {w : A → Li
     all (suc k) (a ∷ l) rest few small follows end =
         rw (append_assoc (w a) (each w l) rest, one.complete a (each w l ++ rest) small.0 (follow l rest small.1 follows), all k l rest (omega arith) small.1 follows end) refl
 
-    pub format_several : (k : ℕ) → Format (λ l. (length l ≤ k) × Each S l) (λ rest. F rest × (f rest ≡ nothing)) (each w) (several k f)
+    pub format_several : (k : ℕ) → Format (λ l. (length l ≤ k) × Each S l) (λ rest. F rest × (f rest ≡ None)) (each w) (several k f)
     format_several k =
         record {
           complete = λ l rest small follows. all k l rest small.0 small.1 follows.0 follows.1;
           sound = λ s l rest e. parts k s l rest e;
         }
 
-    pub format_one_to : (k : ℕ) → Format (λ l. (1 ≤ length l) × (length l ≤ k) × Each S l) (λ rest. F rest × (f rest ≡ nothing)) (each w) (one_to k f)
+    pub format_one_to : (k : ℕ) → Format (λ l. (1 ≤ length l) × (length l ≤ k) × Each S l) (λ rest. F rest × (f rest ≡ None)) (each w) (one_to k f)
     unfolding one_to
     format_one_to k = record { complete = whole; sound = λ s l rest e. go s l rest (several k f s) refl e }
       where
-        whole : (l : List A) (rest : List ℕ) → (1 ≤ length l) × (length l ≤ k) × Each S l → F rest × (f rest ≡ nothing) → on (several k f (each w l ++ rest)) found_some ≡ found l rest
+        whole : (l : List A) (rest : List ℕ) → (1 ≤ length l) × (length l ≤ k) × Each S l → F rest × (f rest ≡ None) → on (several k f (each w l ++ rest)) found_some ≡ found l rest
         whole [] rest small follows = absurd (omega arith)
         whole (a ∷ l) rest small follows = rw (all k (a ∷ l) rest small.1 small.2 follows.0 follows.1) refl
 
         go : (s : List ℕ) (l : List A) (rest : List ℕ) (o : Found (List A)) → several k f s ≡ o → on o found_some ≡ found l rest
             → ((1 ≤ length l) × (length l ≤ k) × Each S l) × (s ≡ each w l ++ rest)
-        go s l rest nothing e q = differ l rest q
-        go s l rest (found [] r) e q = differ l rest q
-        go s l rest (found (a ∷ m) r) e q =
-            let is : a ∷ m ≡ l = cc in
+        go s l rest None e q = differ l rest q
+        go s l rest (Some ([], r)) e q = differ l rest q
+        go s l rest (Some ((a ∷ m), r)) e q =
+            let is : a ∷ m ≡ l = same_value q in
             let ((few, small), here) = parts k s l rest (e ∙ q) in
             let some : 1 ≤ length l = omega (arith, ap length is) in
             ((some, few, small), here)
@@ -281,10 +287,10 @@ module _ {A : Type 0} {S : A → Type 0} {F : List ℕ → Type 0} {w : A → Li
 
 -- what is written where nothing is: no bytes
 module _ {A C : Type 0} {S : C → Type 0} {w : C → List ℕ} {F : List ℕ → Type 0} {f : Reader A} (h : A → C) (none : C) (kinds : Kinds h (λ (u : Unit {0}). none)) where
-  pub format_optional : S none → w none ≡ [] → Format (λ a. S (h a)) F (λ a. w (h a)) f → Format S (λ rest. F rest × (f rest ≡ nothing)) w (optional h none f)
+  pub format_optional : S none → w none ≡ [] → Format (λ a. S (h a)) F (λ a. w (h a)) f → Format S (λ rest. F rest × (f rest ≡ None)) w (optional h none f)
   format_optional small is of =
       format_one_of h (λ u. none) kinds of
-      (format_as (λ u s. tt) (λ u s. small) (λ rest follows. follows) (λ u. is) (format_empty (λ rest. f rest ≡ nothing)))
+      (format_as (λ u s. tt) (λ u s. small) (λ rest follows. follows) (λ u. is) (format_empty (λ rest. f rest ≡ None)))
       (λ u rest s follows. rw is follows)
 
 -- ---- a whole text: it spells a value, or none
@@ -315,12 +321,12 @@ module _ {A : Type 0} {S : A → Type 0} {F : List ℕ → Type 0} {w : A → Li
   format_whole {B} k other l = go (f l) refl
     where
       go : (o : Found A) → f l ≡ o → Whole (λ a. S a × (l ≡ w a)) k other (whole k other o)
-      go nothing e = unspelt (λ a is. differ a [] (sym e ∙ read_whole a l is.0 is.1))
-      go (found a []) e = let (small, is) = of.sound l a [] e in spelt a (small, is ∙ append-nil (w a))
-      go (found a (b ∷ rest)) e =
+      go None e = unspelt (λ a is. differ a [] (sym e ∙ read_whole a l is.0 is.1))
+      go (Some (a, [])) e = let (small, is) = of.sound l a [] e in spelt a (small, is ∙ append-nil (w a))
+      go (Some (a, (b ∷ rest))) e =
           unspelt (λ a' is.
           let same : ◌≡◌ {A = Found A} (found a (b ∷ rest)) (found a' []) = sym e ∙ read_whole a' l is.0 is.1 in
-          let z : b ∷ rest ≡ [] = cc in
+          let z : b ∷ rest ≡ [] = same_rest same in
           let z : ◌≡◌ {A = ℕ} 0 1 = cc in
           omega arith)
 

@@ -1,3 +1,3 @@
 pub mod Formats
-pub mod Starts
-pub mod Places
+pub mod Fixed
+pub mod Before

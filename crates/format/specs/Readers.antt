@@ -1,29 +1,30 @@
 -- Readers: each finds a value at the start of a list of bytes, and the bytes after it. They are composed as the text is.
 -- Nobody has to believe this: proofs/Formats.antt says what a reader finds, in terms of the text that is written.
-use Rattle.std.specs.Prelude.{ℕ, zero, suc, Bool, true, false, List, [], ◌∷◌, length, drop, eqb}
+use Rattle.std.specs.Prelude.{ℕ, zero, suc, Bool, true, false, List, [], ◌∷◌, Option, Some, None, length, drop, eqb}
 use Rattle.algebra.specs.Choice.{pick}
 use Rattle.text.specs.Slices.{up_to}
 use Rattle.word.specs.Words.{ends_word}
 use Rattle.word.specs.Numbers.{number_of}
-use Rattle.word.specs.declared.Numeral.{Numeral}
-use Rattle.word.specs.declared.Numeral.TheVariants.{Value, Missing}
 
-pub data Found (A : Type 0) : Type 0 where
-  nothing : Found A
-  found : A → List ℕ → Found A
+-- a value and the bytes after it, or nothing
+abbrev pub Found : Type 0 → Type 0
+Found A = Option (A × List ℕ)
+
+abbrev pub found : {A : Type 0} → A → List ℕ → Found A
+found a rest = Some (a, rest)
 
 abbrev pub Reader : Type 0 → Type 0
 Reader A = List ℕ → Found A
 
 -- go on with what was found
 abbrev pub on : {A B : Type 0} → Found A → (A → List ℕ → Found B) → Found B
-on nothing k = nothing
-on (found a rest) k = k a rest
+on None k = None
+on (Some p) k = k p.0 p.1
 
 -- the first, or where it found nothing the second
 abbrev pub or_else : {A C : Type 0} → Found A → (A → List ℕ → Found C) → Found C → Found C
-or_else nothing k other = other
-or_else (found a rest) k other = k a rest
+or_else None k other = other
+or_else (Some p) k other = k p.0 p.1
 
 -- whether the bytes w stand at the start of s
 unfoldable pub starts_with : List ℕ → List ℕ → Bool
@@ -35,15 +36,15 @@ starts_with (b ∷ w) (c ∷ s) = pick (eqb b c) (starts_with w s) false
 
 -- the bytes w
 unfoldable pub fixed : List ℕ → Reader (Unit {0})
-fixed w s = pick (starts_with w s) (found tt (drop (length w) s)) nothing
+fixed w s = pick (starts_with w s) (found tt (drop (length w) s)) None
 
 -- no bytes
 unfoldable pub empty : Reader (Unit {0})
 empty s = found tt s
 
-abbrev pub number_found : Numeral → List ℕ → Found ℕ
-number_found Missing rest = nothing
-number_found (Value n) rest = found n rest
+abbrev pub number_found : Option ℕ → List ℕ → Found ℕ
+number_found None rest = None
+number_found (Some n) rest = found n rest
 
 -- a number of at most 7 digits, up to a space, a parenthesis or the end
 unfoldable pub number : Reader ℕ
@@ -70,7 +71,7 @@ several (suc k) f s = or_else (f s) (λ a rest. on (several k f rest) (λ l rest
 
 -- what was found, where it is not empty
 abbrev pub found_some : {A : Type 0} → List A → List ℕ → Found (List A)
-found_some [] rest = nothing
+found_some [] rest = None
 found_some (a ∷ l) rest = found (a ∷ l) rest
 
 -- the same, and at least one of them
@@ -93,6 +94,6 @@ optional h none f = one_of h (λ u. none) f empty
 
 -- k of the value, where nothing is left after it
 abbrev pub whole : {A B : Type 0} → (A → B) → B → Found A → B
-whole k other nothing = other
-whole k other (found a []) = k a
-whole k other (found a (b ∷ rest)) = other
+whole k other None = other
+whole k other (Some (a, [])) = k a
+whole k other (Some (a, b ∷ rest)) = other

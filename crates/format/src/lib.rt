@@ -1,79 +1,34 @@
-// Parts of a line, each read at a place of the whole slice. A part that is not there is refused by 5: the line is not the form.
+// Parts of a line, each read at the start of what is left of it. What is read comes with what is left after it; a part that is not there is None.
 #![tactic(auto)]
 
 ghost use Rattle.std.specs.Prelude.{◌≡◌};
-ghost use Rattle.format.specs.Readers.{starts_with, fixed, number, before};
-ghost use Rattle.format.specs.Places.{Answers, fixed_part, number_part};
+ghost use Rattle.format.specs.Readers.{fixed, number, before};
+ghost use Rattle.format.specs.Seen.{passed, seen};
 
-use word::{Numeral, next_word, number_of};
+use word::{next_word, number_of};
 
-// Fixed bytes: the place after them, or the line's refusal.
-#[derive(Clone, Copy)]
-pub enum FixedAt {
-    Read(usize),
-    Refused(u64),
-}
-
-// A number and the place after it, or the line's refusal.
-#[derive(Clone, Copy)]
-pub enum NumberAt {
-    Read(u64, usize),
-    Refused(u64),
-}
-
-// Whether `word` stands at the start of `rest`.
-fn starts_with(rest: &[u8], word: &[u8]) -> bool
-    ensures { result ≡ starts_with word.now rest.now }
+// The bytes of `word`: what is left after them.
+pub fn read_fixed<'a>(rest: &'a [u8], word: &[u8]) -> Option<&'a [u8]>
+    ensures { passed result ≡ fixed word.now rest.now }
 {
-    if rest.len() < word.len() {
-        return false;
-    }
-    let mut i = 0;
-    while i < word.len() {
-        if rest[i] != word[i] {
-            return false;
-        }
-        i += 1;
-    }
-    true
-}
-
-// The bytes of `word`.
-pub fn fixed_at(line: &[u8], at: usize, word: &[u8]) -> FixedAt
-    ensures { Answers (fixed word.now) line.now at (fixed_part result) }
-{
-    if line.len() < at {
-        return FixedAt::Refused(5);
-    }
-    let rest = &line[at..];
-    if starts_with(rest, word) {
-        FixedAt::Read(at + word.len())
-    } else {
-        FixedAt::Refused(5)
-    }
+    rest.strip_prefix(word)
 }
 
 // A number of at most 7 digits.
-pub fn number_at(line: &[u8], at: usize) -> NumberAt
-    ensures { Answers number line.now at (number_part result) }
+pub fn read_number(rest: &[u8]) -> Option<(u64, &[u8])>
+    ensures { seen result ≡ number rest.now }
 {
-    if line.len() < at {
-        return NumberAt::Refused(5);
-    }
-    let rest = &line[at..];
     let word = next_word(rest);
-    let Numeral::Value(n) = number_of(word) else {
-        return NumberAt::Refused(5);
+    // this form and no `?`: SCOPE 17.7
+    let Some(n) = number_of(word) else {
+        return None;
     };
-    NumberAt::Read(n, at + word.len())
+    Some((n, &rest[word.len()..]))
 }
 
 // The bytes of `word`, and then a number.
-pub fn number_after(line: &[u8], at: usize, word: &[u8]) -> NumberAt
-    ensures { Answers (before word.now number) line.now at (number_part result) }
+pub fn read_number_after<'a>(rest: &'a [u8], word: &[u8]) -> Option<(u64, &'a [u8])>
+    ensures { seen result ≡ before word.now number rest.now }
 {
-    let FixedAt::Read(next) = fixed_at(line, at, word) else {
-        return NumberAt::Refused(5);
-    };
-    number_at(line, next)
+    read_number(read_fixed(rest, word)?)
 }

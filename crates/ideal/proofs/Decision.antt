@@ -1,38 +1,43 @@
--- Laws on decisions: the smaller of two numbers, and the branch that is found. Assumes nothing.
+-- The later of two answers is what the smaller of two numbers gives. Assumes nothing.
 use mathlib.Core.Path.{◌≡◌, refl, ap, ap₂, ◌∙◌}
-use mathlib.Core.Bool.{Bool, ◌&&◌, ◌||◌}
+use mathlib.Core.Bool.{◌&&◌, ◌||◌}
 use Prim.Native.Nat.{ℕ}
-use Rattle.wide.specs.declared.Order.{Order}
-use Rattle.wide.specs.declared.Order.TheVariants.{Less, Equal, Greater}
-use Rattle.wide.specs.Order.{at_most}
+use Rattle.std.specs.declared.cmp.Ordering.{Ordering}
+use Rattle.std.specs.declared.cmp.Ordering.TheVariants.{Less, Equal, Greater}
+use Rattle.std.specs.Ordering.{is_le, is_ge, nat_cmp, ord_max, ordering_index}
 use Rattle.cylinder.specs.Cut.{Cut, smaller}
-use Rattle.cylinder.specs.declared.Cylinder.{Cylinder}
-use Rattle.cylinder.specs.declared.Stress.{Stress}
-use Rattle.root_order.specs.Decision.{Decides, at_least}
-use Rattle.ideal.specs.Decision.{later_of, cut_of}
+use Rattle.root_order.specs.Decision.{Decides}
 
-later_most : (a b : Order) → at_most (later_of a b) ≡ (at_most a && at_most b)
-later_most Less b = refl
+-- the later by std's order of answers
+abbrev pub later_of : Ordering → Ordering → Ordering
+later_of a b = ord_max (λ x y. nat_cmp (ordering_index x) (ordering_index y)) a b
+
+later_most : (a b : Ordering) → is_le (later_of a b) ≡ (is_le a && is_le b)
+later_most Less Less = refl
+later_most Less Equal = refl
+later_most Less Greater = refl
 later_most Equal Less = refl
 later_most Equal Equal = refl
 later_most Equal Greater = refl
-later_most Greater b = refl
+later_most Greater Less = refl
+later_most Greater Equal = refl
+later_most Greater Greater = refl
 
-later_least : (a b : Order) → at_least (later_of a b) ≡ (at_least a || at_least b)
-later_least Less b = refl
+later_least : (a b : Ordering) → is_ge (later_of a b) ≡ (is_ge a || is_ge b)
+later_least Less Less = refl
+later_least Less Equal = refl
+later_least Less Greater = refl
 later_least Equal Less = refl
 later_least Equal Equal = refl
 later_least Equal Greater = refl
-later_least Greater b = refl
+later_least Greater Less = refl
+later_least Greater Equal = refl
+later_least Greater Greater = refl
 
 -- the smaller of two numbers
-pub decides_smaller : (s t : Cut) (p q : ℕ) {o a b : Order} → o ≡ later_of a b → Decides a s p q → Decides b t p q → Decides o (smaller s t) p q
+pub decides_smaller : (s t : Cut) (p q : ℕ) {o a b : Ordering} → o ≡ later_of a b → Decides a s p q → Decides b t p q → Decides o (smaller s t) p q
 decides_smaller s t p q {o} {a} {b} e h k =
     record {
-      reaches = ap at_most e ∙ later_most a b ∙ ap₂ ◌&&◌ h.reaches k.reaches;
-      within = ap at_least e ∙ later_least a b ∙ ap₂ ◌||◌ h.within k.within;
+      reaches = ap is_le e ∙ later_most a b ∙ ap₂ ◌&&◌ h.reaches k.reaches;
+      within = ap is_ge e ∙ later_least a b ∙ ap₂ ◌||◌ h.within k.within;
     }
-
--- the stress and the branch that the code has found
-pub decides_at : {o : Order} {k : Stress} {b : Bool} (s : Cylinder) (p q : ℕ) (k' : Stress) (b' : Bool) → k ≡ k' → b ≡ b' → Decides o (cut_of k' b' s) p q → Decides o (cut_of k b s) p q
-decides_at s p q k' b' e h d = rw (e, h) d

@@ -61,7 +61,7 @@ times_high l m h x y P Q R T S pos e a b c =
     right x y S = omega arith
 
 -- upper bounds of a product: g and k are the gaps
-pub gap_times : (l m h g k T : ℕ) → l ≤ T → m ≤ T → g * k ≤ T → l * m ≤ (h + 3) * T → (l + g) * (m + k) ≤ (h + (g + k + 4)) * T
+pub gap_times : (l m h g k T : ℕ) → l ≤ T → m ≤ T → g * k ≤ T → l * m ≤ (h + 1) * T → (l + g) * (m + k) ≤ (h + (g + k + 2)) * T
 gap_times l m h g k T a b c d = omega (arith, d, c, mul-le-mul_right g b, mul-le-mul_right k a)
 
 -- a product above 0 has no factor 0

@@ -1,9 +1,9 @@
 -- What bounds say of a number.
 -- Nobody has to believe this: only contracts between crates speak of it.
-use Rattle.std.specs.Prelude.{ℕ, ◌+◌, ◌*◌, ◌^◌, ◌≤◌, ◌<◌}
+use Rattle.std.specs.Prelude.{◌≡◌, ℕ, ◌+◌, ◌*◌, ◌^◌, ◌≤◌, ◌<◌, Option, Some, None}
+use Rattle.std.specs.Ordering.{nat_cmp}
+use Rattle.std.specs.declared.cmp.Ordering.{Ordering}
 use Rattle.interval.specs.declared.Interval.{Interval}
-use Rattle.interval.specs.declared.Side.{Side}
-use Rattle.interval.specs.declared.Side.TheVariants.{Below, Above, Unseen}
 
 -- one more than the largest bound
 abbrev pub top : ℕ
@@ -25,8 +25,7 @@ Enclosed low gap up x = (low * power up ≤ x * scale) × (x * scale ≤ (low + 
 abbrev pub Around : Interval → ℕ → Type 0
 Around a x = 0 < a.low → Enclosed a.low a.gap a.up x
 
--- x lies on that side of y, if anything is seen
-abbrev pub Lies : Side → ℕ → ℕ → Type 0
-Lies Below x y = x < y
-Lies Above x y = y < x
-Lies Unseen x y = Unit {0}
+-- x and y are in that order, if any is seen
+abbrev pub Lies : Option Ordering → ℕ → ℕ → Type 0
+Lies (Some o) x y = o ≡ nat_cmp x y
+Lies None x y = Unit {0}

@@ -3,20 +3,30 @@
 // condition: what does not fit comes out as nothing known.
 #![tactic(auto)]
 
-ghost use Rattle.std.specs.Prelude.{◌≡◌, true, ℕ, ◌+◌, ◌-◌, ◌*◌, ◌/◌, ◌^◌, ◌<◌, ◌≤◌};
+ghost use Rattle.std.specs.Prelude.{◌≡◌, true, ℕ, ◌+◌, ◌-◌, ◌*◌, ◌/◌, ◌^◌, ◌<◌, ◌≤◌, IfSome};
 ghost use Rattle.interval.specs.Around.{top, Around, Lies};
 ghost use Rattle.interval.specs.Levelled.{Fits, Levelled};
 
-// Half of a bound's bits: 2^32.
-const HALF: u64 = 4294967296;
+use std::cmp::Ordering;
+
+// The widest gap to go on with: 2^32.
+const WIDEST: u64 = 4294967296;
 
 // Bounds of a number: times 2^4096 it is from low · 2^up to (low + gap) · 2^up. Nothing is known where low is 0.
+// No Option: a low of 0 comes of the arithmetic itself, in `shifted` and `minus`, and each operation would have to look for it.
 #[derive(Clone, Copy)]
 pub struct Interval {
     pub low: u64,
     pub gap: u64,
     pub up: u64,
 }
+
+// Nothing known.
+const UNKNOWN: Interval = Interval {
+    low: 0,
+    gap: 0,
+    up: 0,
+};
 
 // Bounds of two numbers at one power: the first is from a to a + g, the second from b to b + h.
 #[derive(Clone, Copy)]
@@ -32,11 +42,11 @@ struct Pair {
 pub fn of(x: u64) -> Interval
     ensures { Around result x }
 {
-    let z = u64::leading_zeros(x) % 64;
+    let z = x.leading_zeros() % 64;
     Interval {
         low: x << z,
         gap: 0,
-        up: 4096 - (z as u64),
+        up: 4096 - u64::from(z),
     }
 }
 
@@ -44,43 +54,28 @@ pub fn of(x: u64) -> Interval
 fn fits(a: Interval) -> bool
     ensures { result ≡ true → Fits a }
 {
-    if HALF < a.gap {
-        return false;
-    }
-    if a.up < 2016 {
-        return false;
-    }
-    a.up <= 8192
+    a.gap <= WIDEST && 2016 <= a.up && a.up <= 8192
 }
 
-// The upper half of a product: up to two units of it may be missing.
+// The upper half of a product.
 fn head(a: u64, b: u64) -> u64
-    ensures { (result * top ≤ a * b) × (a * b ≤ (result + 3) * top) }
+    ensures { (result * top ≤ a * b) × (a * b ≤ (result + 1) * top) }
 {
-    let i = a / HALF;
-    let j = a % HALF;
-    let k = b / HALF;
-    let l = b % HALF;
-    i * k + i * l / HALF + j * k / HALF
+    ((u128::from(a) * u128::from(b)) >> 64) as u64
 }
 
 // Bounds of a product.
 pub fn times(a: Interval, b: Interval) -> Interval
     ensures { (x y : ℕ) → Around a x → Around b y → Around result (x * y) }
 {
-    if fits(a) {
-        if fits(b) {
-            return Interval {
-                low: head(a.low, b.low),
-                gap: a.gap + b.gap + 4,
-                up: a.up + b.up - 4032,
-            };
+    if fits(a) && fits(b) {
+        Interval {
+            low: head(a.low, b.low),
+            gap: a.gap + b.gap + 2,
+            up: a.up + b.up - 4032,
         }
-    }
-    Interval {
-        low: 0,
-        gap: 0,
-        up: 0,
+    } else {
+        UNKNOWN
     }
 }
 
@@ -88,61 +83,42 @@ pub fn times(a: Interval, b: Interval) -> Interval
 fn fit(a: Interval, b: Interval) -> bool
     ensures { result ≡ true → (0 < a.low) × (0 < b.low) × (Fits a) × (Fits b) }
 {
-    if a.low < 1 {
-        return false;
-    }
-    if b.low < 1 {
-        return false;
-    }
-    if fits(a) {
-        return fits(b);
-    }
-    false
-}
-
-// How far q is above p; 0 where it is not.
-fn above(p: u64, q: u64) -> u64
-    ensures { result ≡ q - p }
-{
-    if p < q { q - p } else { 0 }
+    0 < a.low && 0 < b.low && fits(a) && fits(b)
 }
 
 // A number without its last s digits.
+// Not `checked_shr`: it takes a u32, which s would have to be shown to fit.
 fn shifted(x: u64, s: u64) -> u64
     ensures { result ≡ x / 2 ^ s }
 {
     if s < 64 { x >> s } else { 0 }
 }
 
-// Both at one more than the larger power, so that they can be added; nothing known where one does not fit.
-fn levelled(a: Interval, b: Interval) -> Pair
-    ensures { Levelled a b result }
+// Both at one more than the larger power, so that they can be added; nothing where one does not fit.
+fn levelled(a: Interval, b: Interval) -> Option<Pair>
+    ensures { IfSome result (Levelled a b) }
 {
-    if fit(a, b) {
-        let s = above(a.up, b.up) + 1;
-        let t = above(b.up, a.up) + 1;
-        return Pair {
-            a: shifted(a.low, s),
-            g: shifted(a.gap, s) + 2,
-            b: shifted(b.low, t),
-            h: shifted(b.gap, t) + 2,
-            up: a.up + s,
-        };
+    if !fit(a, b) {
+        return None;
     }
-    Pair {
-        a: 0,
-        g: 0,
-        b: 0,
-        h: 0,
-        up: 0,
-    }
+    let s = b.up.saturating_sub(a.up) + 1;
+    let t = a.up.saturating_sub(b.up) + 1;
+    Some(Pair {
+        a: shifted(a.low, s),
+        g: shifted(a.gap, s) + 2,
+        b: shifted(b.low, t),
+        h: shifted(b.gap, t) + 2,
+        up: a.up + s,
+    })
 }
 
 // Bounds of a sum.
 pub fn plus(a: Interval, b: Interval) -> Interval
     ensures { (x y : ℕ) → Around a x → Around b y → Around result (x + y) }
 {
-    let p = levelled(a, b);
+    let Some(p) = levelled(a, b) else {
+        return UNKNOWN;
+    };
     Interval {
         low: p.a + p.b,
         gap: p.g + p.h,
@@ -154,32 +130,26 @@ pub fn plus(a: Interval, b: Interval) -> Interval
 pub fn minus(a: Interval, b: Interval) -> Interval
     ensures { (x y : ℕ) → Around a x → Around b y → Around result (x - y) }
 {
-    let p = levelled(a, b);
+    let Some(p) = levelled(a, b) else {
+        return UNKNOWN;
+    };
     Interval {
-        low: above(p.b + p.h, p.a),
+        low: p.a.saturating_sub(p.b + p.h),
         gap: p.g + p.h,
         up: p.up,
     }
 }
 
-// What bounds show of two numbers: the first is below the second, or above it, or they do not tell.
-#[derive(Clone, Copy)]
-pub enum Side {
-    Below,
-    Above,
-    Unseen,
-}
-
-// On which side of another a number is seen to lie.
-pub fn parted(a: Interval, b: Interval) -> Side
+// Which of two numbers is seen to be the larger, if bounds tell; that two are equal, they never tell.
+pub fn parted(a: Interval, b: Interval) -> Option<Ordering>
     ensures { (x y : ℕ) → Around a x → Around b y → Lies result x y }
 {
-    let p = levelled(a, b);
+    let p = levelled(a, b)?;
     if p.a + p.g < p.b {
-        return Side::Below;
+        Some(Ordering::Less)
+    } else if p.b + p.h < p.a {
+        Some(Ordering::Greater)
+    } else {
+        None
     }
-    if p.b + p.h < p.a {
-        return Side::Above;
-    }
-    Side::Unseen
 }

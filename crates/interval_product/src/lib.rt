@@ -6,24 +6,17 @@ ghost use Rattle.std.specs.Prelude.{◌≡◌, true, ℕ, ◌*◌, ◌<◌};
 ghost use Rattle.wide.specs.Value.{base};
 ghost use Rattle.factors.specs.Product.{prod};
 ghost use Rattle.interval.specs.Around.{Around};
+ghost use Rattle.interval_product.specs.Bounds.{BoundsOf};
 
 use interval::Interval;
 
-// Whether the product of two numbers is seen to fit, by their leading zeros.
-fn fits_together(x: u64, y: u64) -> bool
-    ensures { result ≡ true → x * y < base * base }
+// Bounds of a number times w; the number is 1 where there are no bounds of it yet.
+fn joined(n: Option<Interval>, w: u64) -> Interval
+    ensures { (m : ℕ) → BoundsOf n m → Around result (m * w) }
 {
-    64 <= u64::leading_zeros(x) + u64::leading_zeros(y)
-}
-
-// Bounds of a number times w; the number is 1 where it is fresh.
-fn joined(fresh: bool, n: Interval, w: u64) -> Interval
-    ensures { (m : ℕ) → Around n m → (fresh ≡ true → m ≡ 1) → Around result (m * w) }
-{
-    if fresh {
-        interval::of(w)
-    } else {
-        interval::times(n, interval::of(w))
+    match n {
+        Some(a) => interval::times(a, interval::of(w)),
+        None => interval::of(w),
     }
 }
 
@@ -31,20 +24,16 @@ fn joined(fresh: bool, n: Interval, w: u64) -> Interval
 pub fn bounds_of(x: u64, f: &[u64]) -> Interval
     ensures { Around result (x * prod f.now) }
 {
-    let mut n = interval::of(1);
-    let mut fresh = true;
+    let mut n = None;
     let mut w = x;
-    let mut i = 0;
-    while i < f.len() {
-        let y = f[i];
-        if fits_together(w, y) {
-            w = w * y;
-        } else {
-            n = joined(fresh, n, w);
-            fresh = false;
-            w = y;
+    for y in f {
+        match w.checked_mul(*y) {
+            Some(product) => w = product,
+            None => {
+                n = Some(joined(n, w));
+                w = *y;
+            }
         }
-        i += 1;
     }
-    joined(fresh, n, w)
+    joined(n, w)
 }

@@ -1,17 +1,19 @@
 -- What the numbers of the rule are known to be. Nobody has to believe this: `line_bounds_lem` (crate pressure) has that the bounds are right.
-use Rattle.std.specs.Prelude.{◌≡◌, ℕ, ◌+◌, ◌*◌, ◌-◌, ◌≤◌, ◌<◌, Bool}
+use Rattle.std.specs.Prelude.{◌≡◌, ℕ, ◌+◌, ◌*◌, ◌-◌, ◌≤◌, ◌<◌, Bool, true}
+use Rattle.cylinder.specs.declared.ByStress.{ByStress}
 use Rattle.cylinder.specs.declared.Cylinder.{Cylinder}
 use Rattle.cylinder.specs.Fraction.{Fraction, ◌//◌}
 use Rattle.cylinder.specs.WholeIdeal.{axial_cut}
 use Rattle.cylinder.specs.Search.{Pair, grid, place, sum_bounds}
 use Rattle.algebra.specs.Choice.{pick}
-use Rattle.bounds.specs.declared.Load.{Load}
+use Rattle.term.specs.declared.Load.{Load}
 use Rattle.bounds.specs.Spot.{SpotsFor}
+use Rattle.bounds.specs.Stresses.{fraction_of}
 use Rattle.line_bounds.specs.declared.Gain.{Gain}
 use Rattle.line_bounds.specs.declared.Worked.{Worked}
 use Rattle.line_bounds.specs.declared.Gain.TheVariants.{Idle, Broken, Applies, Unclear}
 use Rattle.pressure.specs.declared.Order.{Order}
-use Rattle.pressure.specs.WholeGain.{Z, fits, reduced, extra, place38, added_above, added_below, acting, tested_at}
+use Rattle.pressure.specs.WholeGain.{Z, fits, reduced, extra, place38, added_above, added_below, acting, tested_at, line_bounds}
 
 -- S lies from k/q on, P^0.38 from j/10⁸
 pub record Fine (k q j : ℕ) : Type 0 where
@@ -36,6 +38,9 @@ tested_excess o s = tested_at o s - 1000
 -- L and U with the axial stress over the gain of an added part of t
 abbrev pub gained_by : Cylinder → Fraction → Fraction → Fraction → ℕ → Pair
 gained_by s x y z t = sum_bounds (extra x) s ((x.num * (5 * Z)) // (x.den * (5 * Z + 6 * t))) y z
+
+abbrev pub gained_of : Cylinder → ByStress Load → ℕ → Pair
+gained_of s l t = gained_by s (fraction_of l.axial) (fraction_of l.ring) (fraction_of l.shear) t
 
 -- what the pressure does
 unfoldable pub gain_of : Order → Cylinder → ℕ → Gain
@@ -62,9 +67,19 @@ pub record WorkedFor (o : Order) (s : Cylinder) (p : ℕ) (A R H : Type 0) (w : 
   pub little : Little w.gain
   pub spots : SpotsFor s A R H w.spots
 
+abbrev pub WorkedWanted : Order → Cylinder → ℕ → ByStress Bool → Worked → Type 0
+WorkedWanted o s p b w = WorkedFor o s p (b.axial ≡ true) (b.ring ≡ true) (b.shear ≡ true) w
+
+abbrev pub WorkedLoaded : Order → Cylinder → ℕ → ByStress Load → Worked → Type 0
+WorkedLoaded o s p l w = WorkedFor o s p (0 < l.axial.num) (0 < l.ring.num) (0 < l.shear.num) w
+
 -- L and U by it
 abbrev pub bounds_by : Gain → Cylinder → Fraction → Fraction → Fraction → Pair
 bounds_by Idle s x y z = sum_bounds 0 s x y z
 bounds_by Broken s x y z = sum_bounds 0 s x y z
 bounds_by (Applies t) s x y z = gained_by s x y z t
 bounds_by (Unclear t) s x y z = record { low = (gained_by s x y z t).low; high = (sum_bounds 0 s x y z).high }
+
+-- L and U under three stresses, by a reading of the test
+abbrev pub line_of : Order → Cylinder → ℕ → ByStress Load → Pair
+line_of o s p l = line_bounds s p (tested_at o s) (fraction_of l.axial) (fraction_of l.ring) (fraction_of l.shear)

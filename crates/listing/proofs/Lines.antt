@@ -10,8 +10,8 @@ use lib.Dec.{ltb}
 use borrow.Author.Tests.{ne_eqb}
 use Rattle.text.specs.Bytes.{ascii, digits, decimal, spaced, is_newline, on_first, lines}
 use Rattle.algebra.specs.Choice.{pick}
-use Rattle.answer.specs.declared.Answer.{Answer}
-use Rattle.answer.specs.declared.Answer.TheVariants.{Refused, Judged}
+use Rattle.std.specs.Prelude.{Ok, Err}
+use Rattle.answer.specs.Answers.{Answer, refusal_number}
 use Rattle.answer.specs.declared.Verdict.{Verdict}
 use Rattle.answer.specs.declared.Verdict.TheVariants.{Holds, Fails, Open}
 use Rattle.listing.specs.declared.Counts.{Counts}
@@ -67,8 +67,9 @@ word_plain Open = refl
 
 said_plain : (a : Answer) → plain (said a) ≡ true
 unfolding plain
-said_plain (Judged j) = plain_append (ascii " " ++ verdict_word j.verdict) (ascii ")") (plain_append (ascii " ") (verdict_word j.verdict) refl (word_plain j.verdict)) refl
-said_plain (Refused n) =
+said_plain (Ok j) = plain_append (ascii " " ++ verdict_word j.verdict) (ascii ")") (plain_append (ascii " ") (verdict_word j.verdict) refl (word_plain j.verdict)) refl
+said_plain (Err r) =
+    let n = refusal_number r in
     plain_append (ascii " refused " ++ decimal n) (ascii ")") (plain_append (ascii " refused ") (decimal n) refl (decimal_plain n)) refl
 
 entry_plain : (k : ℕ) (a : Answer) → plain (entry k a) ≡ true

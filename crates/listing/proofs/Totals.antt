@@ -1,7 +1,7 @@
 -- The counts of answers, and the room that their listing takes.
 -- Assumes nothing.
 use mathlib.Core.Path.{◌≡◌, refl}
-use Prim.Native.Nat.{ℕ, ◌+◌, ◌*◌, ◌≤◌, ◌<◌, zero-le}
+use Prim.Native.Nat.{ℕ, ◌+◌, ◌*◌, ◌≤◌, zero-le}
 use native.Mathlib.Omega.{arith}
 use mathlib.Core.Bool.{Bool, true, false}
 use mathlib.Core.List.{List, [], ◌∷◌, map}
@@ -9,11 +9,11 @@ use lib.ListN.{length, length-append, length-map}
 use lib.Dec.{eqb, lit≤}
 use Rattle.algebra.specs.Choice.{pick}
 use Rattle.text.proofs.Laws.{decimal_length}
-use Rattle.answer.specs.declared.Answer.{Answer}
-use Rattle.answer.specs.declared.Answer.TheVariants.{Refused, Judged}
+use Rattle.std.specs.Prelude.{Ok, Err}
+use Rattle.answer.proofs.Numbers.{refusal_range}
 use Rattle.answer.specs.declared.Verdict.{Verdict}
 use Rattle.answer.specs.declared.Verdict.TheVariants.{Holds, Fails, Open}
-use Rattle.answer.specs.Answers.{verdict_number}
+use Rattle.answer.specs.Answers.{Answer, verdict_number, refusal_number}
 use Rattle.listing.specs.declared.Counts.{Counts}
 use Rattle.listing.specs.Listing.{verdict_word, said, entry, entries, says, is_refused, count, counts, total, ended, joined, listing_of}
 use Rattle.listing.proofs.Lengths.{entry_length, total_length}
@@ -36,8 +36,8 @@ one_verdict Open = refl
 
 -- each answer is of one kind
 one_kind : (a : Answer) → pick (says Holds a) 1 0 + pick (says Fails a) 1 0 + pick (says Open a) 1 0 + pick (is_refused a) 1 0 ≡ 1
-one_kind (Judged j) = one_verdict j.verdict
-one_kind (Refused n) = refl
+one_kind (Ok j) = one_verdict j.verdict
+one_kind (Err n) = refl
 
 pub count_sum : (xs : List Answer) → length xs ≡ count (says Holds) xs + count (says Fails) xs + count (says Open) xs + count is_refused xs
 unfolding count
@@ -73,12 +73,12 @@ word_room Holds = lit≤ tt
 word_room Fails = lit≤ tt
 word_room Open = lit≤ tt
 
-said_room : (a : Answer) → ((n : ℕ) → a ≡ Refused n → n < 100) → length (said a) ≤ 12
-said_room (Judged j) h = simp length-append (omega (arith, word_room j.verdict))
-said_room (Refused n) h = simp length-append (omega (arith, decimal_length 1 n (h n refl)))
+said_room : (a : Answer) → length (said a) ≤ 12
+said_room (Ok j) = simp length-append (omega (arith, word_room j.verdict))
+said_room (Err r) = simp length-append (omega (arith, decimal_length 1 (refusal_number r) (omega (arith, refusal_range r))))
 
--- answers that a rule gives, whose refusals have numbers below 100
-module _ (f : List ℕ → Answer) (small : (l : List ℕ) (n : ℕ) → f l ≡ Refused n → n < 100) where
+-- answers that a rule gives
+module _ (f : List ℕ → Answer) where
   entries_room : (ls : List (List ℕ)) (k : ℕ) → k + length ls ≤ 10000 → length (joined (entries k (map f ls))) ≤ 24 * length ls
   unfolding entries joined
   entries_room [] k h = zero-le
@@ -88,7 +88,7 @@ module _ (f : List ℕ → Answer) (small : (l : List ℕ) (n : ℕ) → f l ≡
         length-append (ended (entry k (f l))) (joined (entries (k + 1) (map f ls))),
         entry_length k (f l),
         decimal_length 3 k (omega arith),
-        said_room (f l) (small l),
+        said_room (f l),
         entries_room ls (k + 1) (omega arith),
       )
 

@@ -1,15 +1,18 @@
--- A loop that writes the line for one answer after the other and counts them: where it stands, a turn, and its end.
+-- A loop that puts the line for one answer after the other and counts them: where it stands, a turn, and its end.
 -- Assumes nothing.
 use mathlib.Core.Path.{◌≡◌, refl, sym, ap, ◌∙◌, subst}
 use Prim.Native.Nat.{ℕ, ◌+◌, ◌≤◌}
 use native.Mathlib.Nat.{zero-add, add-zero}
 use native.Mathlib.Omega.{arith}
-use mathlib.Core.List.{List, [], ◌∷◌}
+use mathlib.Core.List.{List, [], ◌∷◌, ◌++◌, append_assoc}
 use lib.ListN.{length, length-append}
-use Rattle.text.specs.Slices.{put}
+use Rattle.std.specs.Borrow.{MutBor}
 use Rattle.algebra.specs.Choice.{pick}
-use Rattle.text.proofs.Laws.{put_nil, put_length, put_append, Wrote, wrote_then}
-use Rattle.answer.specs.declared.Answer.{Answer}
+use Rattle.text.specs.declared.Page.{Page}
+use Rattle.text.specs.Slices.{put}
+use Rattle.text.specs.Pages.{Opens, Fits, Puts}
+use Rattle.text.proofs.Laws.{puts_none, puts_then, puts_as}
+use Rattle.answer.specs.Answers.{Answer}
 use Rattle.answer.specs.declared.Verdict.TheVariants.{Holds, Fails, Open}
 use Rattle.listing.specs.declared.Counts.{Counts}
 use Rattle.listing.specs.Listing.{entry, entries, says, is_refused, count, counts, total, ended, joined, listing_of, no_counts}
@@ -27,20 +30,20 @@ added c xs =
       refused = c.refused + count is_refused xs;
     }
 
--- To finish from here is to do the whole: c counts the answers so far, xs are the answers that are left, and `out` is written up to `at`
-pub record Here (whole : List Answer) (out₀ out : List ℕ) (xs : List Answer) (at : ℕ) (c : Counts) : Type 0 where
-  pub next : at + length (joined (entries (c.lines + 1) xs)) ≡ length (joined (entries 1 whole))
-  pub bytes : put out at (joined (entries (c.lines + 1) xs)) ≡ put out₀ 0 (joined (entries 1 whole))
-  pub same : length out ≡ length out₀
+-- To finish from here is to do the whole: c counts the answers so far, xs are the answers that are left, and `bytes` stand on the page for those so far
+pub record Here (whole : List Answer) (start page : Page) (xs : List Answer) (c : Counts) : Type 0 where
+  pub bytes : List ℕ
+  pub puts : Puts start bytes page
+  pub next : bytes ++ joined (entries (c.lines + 1) xs) ≡ joined (entries 1 whole)
   pub counted : added c xs ≡ counts whole
 
-pub here_first : (whole : List Answer) (out : List ℕ) (c : Counts) → c ≡ no_counts → Here whole out out whole 0 c
-here_first whole out c e =
-    subst (λ (d : Counts). Here whole out out whole 0 d) (sym e)
+pub here_first : (whole : List Answer) (start : Page) (xs : List Answer) (c : Counts) → xs ≡ whole → c ≡ no_counts → Here whole start start xs c
+here_first whole start xs c all none =
+    rw (all, none)
     (record {
-      next = zero-add (length (joined (entries 1 whole)));
-      bytes = refl;
-      same = refl;
+      bytes = [];
+      puts = puts_none start;
+      next = refl;
       counted =
           λ i. record {
             lines = zero-add (length whole) i;
@@ -51,7 +54,7 @@ here_first whole out c e =
           };
     })
 
-module _ (whole : List Answer) (out₀ out : List ℕ) (at : ℕ) (c : Counts) where
+module _ (whole : List Answer) (start page : Page) (c : Counts) where
   -- in a turn
   module _ (a : Answer) (ys : List Answer) where
     added_cons : added (with_answer c a) ys ≡ added c (a ∷ ys)
@@ -71,35 +74,35 @@ module _ (whole : List Answer) (out₀ out : List ℕ) (at : ℕ) (c : Counts) w
         lines : c.lines + 1 + length ys ≡ c.lines + length (a ∷ ys)
         lines = omega arith
 
-    entries_split : length (joined (entries (c.lines + 1) (a ∷ ys))) ≡ length (ended (entry (c.lines + 1) a)) + length (joined (entries (c.lines + 1 + 1) ys))
+    turn : Here whole start page (a ∷ ys) c → {page' : Page} → Puts page (ended (entry (c.lines + 1) a)) page' → Here whole start page' ys (with_answer c a)
     unfolding joined entries
-    entries_split = length-append (ended (entry (c.lines + 1) a)) _
-
-    turn : Here whole out₀ out (a ∷ ys) at c → (r : ℕ) (out' : List ℕ) → Wrote out at (ended (entry (c.lines + 1) a)) r out' → Here whole out₀ out' ys r (with_answer c a)
-    unfolding joined entries
-    turn h r out' w =
+    turn h w =
         record {
-          next = omega (arith, h.next, entries_split, w.value);
-          bytes = rw (w.out_after, w.value) (sym (put_append out at (ended (entry (c.lines + 1) a)) (joined (entries (c.lines + 1 + 1) ys))) ∙ h.bytes);
-          same = ap length w.out_after ∙ put_length out at _ ∙ h.same;
+          bytes = h.bytes ++ ended (entry (c.lines + 1) a);
+          puts = puts_then h.puts w;
+          next = append_assoc h.bytes (ended (entry (c.lines + 1) a)) (joined (entries (c.lines + 1 + 1) ys)) ∙ h.next;
           counted = added_cons ∙ h.counted;
         }
 
-    module _ (xs : List Answer) (h : Here whole out₀ out xs at c) (e : xs ≡ a ∷ ys) (c' : Counts) (one : c' ≡ with_answer c a) where
-      abbrev here : Here whole out₀ out (a ∷ ys) at c
-      here = subst (λ (zs : List Answer). Here whole out₀ out zs at c) e h
+    module _ (xs : List Answer) (h : Here whole start page xs c) (e : xs ≡ a ∷ ys) (c' : Counts) (one : c' ≡ with_answer c a) where
+      abbrev here : Here whole start page (a ∷ ys) c
+      here = subst (λ (zs : List Answer). Here whole start page zs c) e h
 
-      pub here_room : length (listing_of whole) ≤ length out₀ → at + length (ended (entry c'.lines a)) ≤ length out
+      pub here_room : Fits start (listing_of whole) → Fits page (ended (entry c'.lines a))
+      unfolding joined entries
       here_room room =
-          omega (arith, listing_length whole, entries_split, here.next, h.same, ap (λ (d : Counts). length (ended (entry d.lines a))) one)
+          let left = ap length here.next in
+          let split = length-append here.bytes (joined (entries (c.lines + 1) (a ∷ ys))) in
+          let first = length-append (ended (entry (c.lines + 1) a)) (joined (entries (c.lines + 1 + 1) ys)) in
+          omega (arith, listing_length whole, left, split, first, here.puts.at, here.puts.size, ap (λ (d : Counts). length (ended (entry d.lines a))) one)
 
-      pub here_turn : (r : ℕ) (out' : List ℕ) → Wrote out at (ended (entry c'.lines a)) r out' → Here whole out₀ out' ys r c'
-      here_turn r out' w =
-          subst (λ (d : Counts). Here whole out₀ out' ys r d) (sym one)
-          (turn here r out' (subst (λ (d : Counts). Wrote out at (ended (entry d.lines a)) r out') one w))
+      pub here_turn : {page' : Page} → Puts page (ended (entry c'.lines a)) page' → Here whole start page' ys c'
+      here_turn {page'} w =
+          subst (λ (d : Counts). Here whole start page' ys d) (sym one)
+          (turn here (subst (λ (d : Counts). Puts page (ended (entry d.lines a)) page') one w))
 
   -- no count is above the number of answers
-  pub here_within : (xs : List Answer) → Here whole out₀ out xs at c → Within c (length whole)
+  pub here_within : (xs : List Answer) → Here whole start page xs c → Within c (length whole)
   here_within xs h =
       let w = counts_within whole in
       record {
@@ -111,9 +114,9 @@ module _ (whole : List Answer) (out₀ out : List ℕ) (at : ℕ) (c : Counts) w
       }
 
   -- at the end
-  module _ (xs : List Answer) (h : Here whole out₀ out xs at c) (e : xs ≡ []) where
-    abbrev done : Here whole out₀ out [] at c
-    done = subst (λ (zs : List Answer). Here whole out₀ out zs at c) e h
+  module _ (xs : List Answer) (h : Here whole start page xs c) (e : xs ≡ []) where
+    abbrev done : Here whole start page [] c
+    done = subst (λ (zs : List Answer). Here whole start page zs c) e h
 
     pub here_counts : c ≡ counts whole
     unfolding count
@@ -124,17 +127,30 @@ module _ (whole : List Answer) (out₀ out : List ℕ) (at : ℕ) (c : Counts) w
         less : (x : ℕ) → x ≡ x + 0
         less x = sym (add-zero x)
 
-    here_wrote : Wrote out₀ 0 (joined (entries 1 whole)) at out
+    here_puts : Puts start (joined (entries 1 whole)) page
     unfolding joined entries
-    here_wrote = record { value = omega (arith, done.next); out_after = sym (put_nil out at) ∙ done.bytes }
+    here_puts = puts_as (sym (append_nil done.bytes) ∙ done.next) done.puts
+      where
+        append_nil : (l : List ℕ) → l ++ [] ≡ l
+        append_nil [] = refl
+        append_nil (b ∷ l) = ap (λ (m : List ℕ). b ∷ m) (append_nil l)
 
-    pub here_total : length (listing_of whole) ≤ length out₀ → at + length (ended (total c)) ≤ length out
+    pub here_total : Fits start (listing_of whole) → Fits page (ended (total c))
     here_total room =
-        omega (arith, listing_length whole, here_wrote.value, h.same, ap (λ (d : Counts). length (ended (total d))) here_counts)
+        omega (arith, listing_length whole, here_puts.at, here_puts.size, ap (λ (d : Counts). length (ended (total d))) here_counts)
 
-    -- the total line is written behind the others: that is the listing
-    pub here_listing : (r : ℕ) (out' : List ℕ) → Wrote out at (ended (total c)) r out' → Wrote out₀ 0 (listing_of whole) r out'
+    -- the total line is put behind the others: that is the listing
+    pub here_listing : {page' : Page} → Puts page (ended (total c)) page' → Puts start (listing_of whole) page'
     unfolding listing_of
-    here_listing r out' w =
-        wrote_then out₀ 0 (joined (entries 1 whole)) at out _ r out' here_wrote
-        (subst (λ (d : Counts). Wrote out at (ended (total d)) r out') here_counts w)
+    here_listing {page'} w = puts_then here_puts (subst (λ (d : Counts). Puts page (ended (total d)) page') here_counts w)
+
+-- on a page that is opened on a buffer
+module _ (buffer : MutBor (List ℕ)) (start : Page) (opens : Opens buffer start) (whole : List Answer) where
+  pub opened_fits : length (listing_of whole) ≤ length buffer.now → Fits start (listing_of whole)
+  opened_fits room = omega (arith, opens.at, ap length opens.out)
+
+  pub opened_out : {page : Page} → Puts start (listing_of whole) page → page.out.now ≡ put buffer.now 0 (listing_of whole)
+  opened_out w = w.out ∙ rw (opens.out, opens.at) refl
+
+  pub opened_at : {page : Page} → Puts start (listing_of whole) page → page.at ≡ length (listing_of whole)
+  opened_at w = omega (arith, w.at, opens.at)

@@ -1,7 +1,7 @@
 -- How the program counts, one answer after the other. Nobody has to believe this: `here_counts` (proofs/Turns.antt) has that it ends in `counts`.
 use Rattle.std.specs.Prelude.{◌+◌}
 use Rattle.algebra.specs.Choice.{pick}
-use Rattle.answer.specs.declared.Answer.{Answer}
+use Rattle.answer.specs.Answers.{Answer}
 use Rattle.answer.specs.declared.Verdict.TheVariants.{Holds, Fails, Open}
 use Rattle.listing.specs.declared.Counts.{Counts}
 use Rattle.listing.specs.Listing.{says, is_refused}

@@ -1,12 +1,10 @@
 -- SCOPE 8, 9.8 and 9.9: the listing of answers, a line for each and the total line.
-use Rattle.std.specs.Prelude.{ℕ, ◌+◌, Bool, true, false, List, [], ◌∷◌, ◌++◌, length, eqb}
+use Rattle.std.specs.Prelude.{ℕ, ◌+◌, Bool, true, false, List, [], ◌∷◌, ◌++◌, length, eqb, Ok, Err}
 use Rattle.text.specs.Bytes.{ascii, decimal, spaced}
 use Rattle.algebra.specs.Choice.{pick}
-use Rattle.answer.specs.declared.Answer.{Answer}
-use Rattle.answer.specs.declared.Answer.TheVariants.{Refused, Judged}
 use Rattle.answer.specs.declared.Verdict.{Verdict}
 use Rattle.answer.specs.declared.Verdict.TheVariants.{Holds, Fails, Open}
-use Rattle.answer.specs.Answers.{verdict_number}
+use Rattle.answer.specs.Answers.{Answer, verdict_number, refusal_number}
 use Rattle.listing.specs.declared.Counts.{Counts}
 
 -- ---- a line for each answer
@@ -19,8 +17,8 @@ verdict_word Open = ascii "open"
 
 -- what follows the line's number
 abbrev pub said : Answer → List ℕ
-said (Judged j) = ascii " " ++ verdict_word j.verdict ++ ascii ")"
-said (Refused n) = ascii " refused " ++ decimal n ++ ascii ")"
+said (Ok j) = ascii " " ++ verdict_word j.verdict ++ ascii ")"
+said (Err r) = ascii " refused " ++ decimal (refusal_number r) ++ ascii ")"
 
 -- SCOPE 8.1: the line for the answer a to line k
 unfoldable pub entry : ℕ → Answer → List ℕ
@@ -35,12 +33,12 @@ entries k (a ∷ answers) = entry k a ∷ entries (k + 1) answers
 
 -- the answer has the verdict v; the answer is a refusal
 abbrev pub says : Verdict → Answer → Bool
-says v (Judged j) = eqb (verdict_number v) (verdict_number j.verdict)
-says v (Refused n) = false
+says v (Ok j) = eqb (verdict_number v) (verdict_number j.verdict)
+says v (Err n) = false
 
 abbrev pub is_refused : Answer → Bool
-is_refused (Judged j) = false
-is_refused (Refused n) = true
+is_refused (Ok j) = false
+is_refused (Err n) = true
 
 -- how many answers pass a test
 unfoldable pub count : (Answer → Bool) → List Answer → ℕ

@@ -5,10 +5,10 @@ ghost use Rattle.std.specs.Prelude.{◌≡◌, ◌<◌};
 ghost use Rattle.listing.specs.Listing.{no_counts};
 ghost use Rattle.listing.specs.Counting.{with_answer};
 
-use answer::{Answer, Verdict};
+use answer::{Answer, Judgement, Verdict};
 
 // The five counts of a listing: of lines, and of the answers of each kind.
-#[derive(Clone, Copy)]
+#[derive(Clone, Copy, Default)]
 pub struct Counts {
     pub lines: u64,
     pub holds: u64,
@@ -22,41 +22,36 @@ impl Counts {
     pub fn none() -> Self
         ensures { result ≡ no_counts }
     {
-        Counts {
-            lines: 0,
-            holds: 0,
-            fails: 0,
-            opens: 0,
-            refused: 0,
-        }
+        Counts::default()
     }
 
     // The counts with one more answer.
-    pub fn with(self, a: Answer) -> Self
+    pub fn with(mut self, a: Answer) -> Self
         requires { (self.lines < 65536) × (self.holds < 65536) × (self.fails < 65536) × (self.opens < 65536) × (self.refused < 65536) }
         ensures { result ≡ with_answer self a }
     {
-        let mut c = self;
-        c.lines += 1;
+        self.lines += 1;
         match a {
-            Answer::Refused(_) => {
-                c.refused += 1;
-            }
-            Answer::Judged(j) => {
-                let verdict = j.verdict;
-                match verdict {
-                    Verdict::Holds => {
-                        c.holds += 1;
-                    }
-                    Verdict::Fails => {
-                        c.fails += 1;
-                    }
-                    Verdict::Open => {
-                        c.opens += 1;
-                    }
-                }
-            }
+            Ok(
+                Judgement {
+                    verdict: Verdict::Holds,
+                    ..
+                },
+            ) => self.holds += 1,
+            Ok(
+                Judgement {
+                    verdict: Verdict::Fails,
+                    ..
+                },
+            ) => self.fails += 1,
+            Ok(
+                Judgement {
+                    verdict: Verdict::Open,
+                    ..
+                },
+            ) => self.opens += 1,
+            Err(_) => self.refused += 1,
         }
-        c
+        self
     }
 }

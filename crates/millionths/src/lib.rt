@@ -2,30 +2,24 @@
 // settle it, else by exact comparisons.
 #![tactic(auto)]
 
-ghost use Rattle.std.specs.Prelude.{◌≡◌, true, ℕ, ◌*◌, ◌≤◌, ◌^◌, length};
-ghost use Rattle.wide.specs.Value.{limbs, value, Limbs, Is};
+ghost use Rattle.std.specs.Prelude.{◌≡◌, ℕ, ◌*◌, ◌≤◌, ◌^◌, IfSome};
+ghost use Rattle.wide.specs.Number.{number};
 ghost use Rattle.factors.specs.Product.{prod};
-ghost use Rattle.guess.specs.Roots.{RootTable};
 ghost use Rattle.interval.specs.Around.{Around};
 ghost use Rattle.millionths.specs.Reached.{reached_by};
 
-use guess::Degree;
+use factors::product_of;
+use guess::{Degree, Roots};
 use interval::Interval;
-use interval_root::{Found, guess_of};
-use wide::LIMBS;
+use interval_product::bounds_of;
+use interval_root::guess_of;
+use wide::Number;
 
 // The power of a fraction y/x that a term is: (y/x)^(5/4) for axial and ring stress, 3 (y/x)² for shear.
 #[derive(Clone, Copy)]
 pub enum Power {
     FiveQuarters,
     ThreeSquares,
-}
-
-// Bounds of x times the product of four factors.
-fn bounds(f: [u64; 4], x: u64) -> Interval
-    ensures { Around result (x * prod f) }
-{
-    interval_product::bounds_of(x, &f)
 }
 
 // Bounds of a fifth power.
@@ -36,19 +30,9 @@ fn fifth(x: Interval) -> Interval
     interval::times(interval::times(s, s), x)
 }
 
-// Sets the number to x times the product of four factors.
-fn scaled(l: &mut [u64; LIMBS], f: [u64; 4], x: u64) -> usize
-    requires { length l.old ≡ limbs }
-    ensures { Is l.new result 11 (x * prod f) }
-{
-    let n = factors::product_of(l, &f);
-    product::times(l, n, x)
-}
-
 // How many millionths the power of y/x reaches, up to 2,000,000, if bounds of x and y settle it.
-fn settled(roots: &[u8; 1024], power: Power, x: Interval, y: Interval) -> Found
-    requires { RootTable roots.now }
-    ensures { result.known ≡ true → (n m : ℕ) → Around x n → Around y m → result.at ≡ reached_by power n m }
+fn settled(roots: &Roots, power: Power, x: Interval, y: Interval) -> Option<u64>
+    ensures { IfSome result (λ r. (n m : ℕ) → Around x n → Around y m → r ≡ reached_by power n m) }
 {
     match power {
         Power::FiveQuarters => {
@@ -68,48 +52,33 @@ fn settled(roots: &[u8; 1024], power: Power, x: Interval, y: Interval) -> Found
 }
 
 // How many millionths the power of y/x reaches, up to 2,000,000.
-fn exact(
-    roots: &[u8; 1024],
-    power: Power,
-    x: &[u64; LIMBS],
-    n: usize,
-    y: &[u64; LIMBS],
-    m: usize,
-) -> u64
-    requires { (Limbs x.now n) × (Limbs y.now m) × (n ≤ 11) × (m ≤ 11) × RootTable roots.now }
-    ensures { result ≡ reached_by power (value x.now n) (value y.now m) }
+fn exact(roots: &Roots, power: Power, x: &Number, y: &Number) -> u64
+    requires { (x.now.used ≤ 11) × (y.now.used ≤ 11) }
+    ensures { result ≡ reached_by power (number x.now) (number y.now) }
 {
-    let mut a = [0u64; LIMBS];
-    let mut b = [0u64; LIMBS];
     match power {
         Power::FiveQuarters => {
-            let i = product::fifth_power(&mut a, x, n);
-            let j = product::fifth_power(&mut b, y, m);
-            let t = product::times(&mut b, j, 1000000000000);
-            let u = product::times(&mut b, t, 1000000000000);
-            roots::root(roots, &a, i, &b, u, Degree::Four, 2000000)
+            let x5 = product::fifth_power(x);
+            let mut y5 = product::fifth_power(y);
+            product::times(&mut y5, 1000000000000);
+            product::times(&mut y5, 1000000000000);
+            roots::root(roots, &x5, &y5, Degree::Four, 2000000)
         }
         Power::ThreeSquares => {
-            let i = product::square(&mut a, x, n);
-            let j = product::square(&mut b, y, m);
-            let t = product::times(&mut b, j, 3000000);
-            roots::root(roots, &a, i, &b, t, Degree::One, 2000000)
+            let x2 = product::square(x);
+            let mut y2 = product::square(y);
+            product::times(&mut y2, 3000000);
+            roots::root(roots, &x2, &y2, Degree::One, 2000000)
         }
     }
 }
 
-// How many millionths the power of y g/(x f) reaches, up to 2,000,000, with the products of f and g.
-pub fn reached(roots: &[u8; 1024], power: Power, f: [u64; 4], x: u64, g: [u64; 4], y: u64) -> u64
-    requires { RootTable roots.now }
-    ensures { result ≡ reached_by power (x * prod f) (y * prod g) }
+// How many millionths the power of y/x reaches, up to 2,000,000, with x and y as products of five factors.
+pub fn reached(roots: &Roots, power: Power, x: &[u64; 5], y: &[u64; 5]) -> u64
+    ensures { result ≡ reached_by power (prod x.now) (prod y.now) }
 {
-    let s = settled(roots, power, bounds(f, x), bounds(g, y));
-    if s.known {
-        return s.at;
+    match settled(roots, power, bounds_of(1, x), bounds_of(1, y)) {
+        Some(found) => found,
+        None => exact(roots, power, &product_of(x), &product_of(y)),
     }
-    let mut a = [0u64; LIMBS];
-    let n = scaled(&mut a, f, x);
-    let mut b = [0u64; LIMBS];
-    let m = scaled(&mut b, g, y);
-    exact(roots, power, &a, n, &b, m)
 }

@@ -5,19 +5,22 @@ use mathlib.Core.List.{List}
 use Prim.Native.Nat.{ℕ, ◌*◌, ◌≤◌}
 use native.Mathlib.Omega.{arith}
 use lib.Dec.{leb, ltb, eqb}
-use borrow.Author.Tests.{leb-true, leb-false, eqb-true, le-leb, lt-leb}
+use borrow.Author.Tests.{leb-true, leb-false, le-leb, lt-leb}
 use Rattle.algebra.specs.Choice.{pick}
 use Rattle.algebra.proofs.Tests.{and_true, both_true, pick_either}
 use Rattle.cylinder.specs.InLimits.{InLimits}
+use Rattle.std.specs.Prelude.{Result, Ok, Err, is_ok}
+use Rattle.answer.specs.declared.Refusal.{Refusal}
+use Rattle.answer.specs.Answers.{refusal_number}
 use Rattle.answer.specs.Checks.{AllPassed}
 use Rattle.answer.specs.Answering.{refusal_by}
 use Rattle.answer.proofs.Checks.{refusal_none}
 use Rattle.record.specs.Limits.{from_to, radius_in_range, thickness_in_range, length_in_range, material, in_range, edges_known, effective_wall, wall_ratio, length_ratio, tolerated, checks, cylinder_of}
-use Rattle.record.proofs.Checks.{between, ranges, cylinder_within, above_none}
+use Rattle.record.proofs.Checks.{between, ranges, cylinder_within}
 use Rattle.plates.specs.declared.Shell.{Shell}
 use Rattle.plates.specs.declared.Forces.{Forces}
 use Rattle.plates.specs.Plates.{wall_of, bare, list_allowed, shell_in_range, forces_up_to, forces_allowed, choice_checks, stresses_in_range, is_candidate}
-use Rattle.plates.specs.Choosing.{unloaded, refusal_of, suited, fits}
+use Rattle.plates.specs.Choosing.{unloaded, refusal_of, early, suited, fits}
 
 -- without a shortfall the wall is the nominal one
 pub wall_nominal : (s : Shell) (t : ℕ) → 2 * t ≡ effective_wall (wall_of s t)
@@ -45,13 +48,15 @@ same_range true t l m h = rw (h refl) (go l m)
     go true false = refl
     go true true = refl
 
--- the number of the first of checks 6, 7, 9 and 10 that a shell breaks
-abbrev pub shell_number : Shell → ℕ
-shell_number s = pick (shell_in_range s) (pick (edges_known (bare s)) (pick (length_ratio (bare s)) (pick (tolerated (bare s)) 0 10) 9) 7) 6
+-- how a shell is refused by the first of checks 6, 7, 9 and 10 that it breaks
+abbrev pub shell_refusal : Shell → Result (Unit {0}) Refusal
+shell_refusal s =
+    pick (shell_in_range s) (pick (edges_known (bare s)) (pick (length_ratio (bare s)) (pick (tolerated (bare s)) (Ok tt) (Err Refusal.Imperfection)) (Err Refusal.LengthRatio)) (Err Refusal.Edges))
+    (Err Refusal.Range)
 
 module _ (s : Shell) where
-  -- is that of its record with the thickness that suits it
-  pub suited_refusal : refusal_of s (suited s.radius) ≡ shell_number s
+  -- so is its record with the thickness that suits it
+  pub suited_refusal : refusal_of s (suited s.radius) ≡ shell_refusal s
   unfolding refusal_of
   suited_refusal = go (shell_in_range s) refl
     where
@@ -61,38 +66,81 @@ module _ (s : Shell) where
       range : in_range (unloaded s t) ≡ shell_in_range s
       range = same_range (radius_in_range (bare s)) (thickness_in_range (wall_of s t)) (length_in_range (bare s)) (material (bare s)) (suited_in_range s.radius)
 
-      go : (b : Bool) → shell_in_range s ≡ b → refusal_by (checks (unloaded s t)) ≡ shell_number s
+      go : (b : Bool) → shell_in_range s ≡ b → refusal_by (checks (unloaded s t)) ≡ shell_refusal s
       go false e = rw (range, e) refl
       go true e =
           let r = (and_true (radius_in_range (bare s)) (length_in_range (bare s) && material (bare s)) e).0 in
           rw (range, e, suited_ratio s.radius r (effective_wall (wall_of s t)) (wall_nominal s t)) refl
 
--- with the forces asked after 7: the number of the checks after 14
+-- by the tests of checks 6, 7, 9 and 10
+abbrev by_tests : Bool → Bool → Bool → Bool → Result (Unit {0}) Refusal
+by_tests x e l t = pick x (pick e (pick l (pick t (Ok tt) (Err Refusal.Imperfection)) (Err Refusal.LengthRatio)) (Err Refusal.Edges)) (Err Refusal.Range)
+
+-- with the forces asked after 7: the checks after 14
 in_order : (s : Shell) (forces : Bool) →
-    pick (shell_in_range s) (pick (edges_known (bare s)) (pick forces (pick (length_ratio (bare s)) (pick (tolerated (bare s)) 0 10) 9) 15) 7) 6
-    ≡ pick (eqb (shell_number s) 6) 6 (pick (eqb (shell_number s) 7) 7 (pick forces (shell_number s) 15))
+    pick (shell_in_range s)
+    (pick (edges_known (bare s)) (pick forces (pick (length_ratio (bare s)) (pick (tolerated (bare s)) (Ok tt) (Err Refusal.Imperfection)) (Err Refusal.LengthRatio)) (Err Refusal.Force)) (Err Refusal.Edges))
+    (Err Refusal.Range)
+    ≡ pick (early (shell_refusal s)) (shell_refusal s) (pick forces (shell_refusal s) (Err Refusal.Force))
 in_order s forces = go (shell_in_range s) (edges_known (bare s)) (length_ratio (bare s)) (tolerated (bare s))
   where
     go : (x e l t : Bool) →
-        let n : ℕ = pick x (pick e (pick l (pick t 0 10) 9) 7) 6 in
-        pick x (pick e (pick forces (pick l (pick t 0 10) 9) 15) 7) 6 ≡ pick (eqb n 6) 6 (pick (eqb n 7) 7 (pick forces n 15))
+        pick x (pick e (pick forces (pick l (pick t (Ok tt) (Err Refusal.Imperfection)) (Err Refusal.LengthRatio)) (Err Refusal.Force)) (Err Refusal.Edges)) (Err Refusal.Range)
+        ≡ pick (early (by_tests x e l t)) (by_tests x e l t) (pick forces (by_tests x e l t) (Err Refusal.Force))
     go false e l t = refl
     go true false l t = refl
     go true true false t = refl
     go true true true false = refl
     go true true true true = refl
 
--- what the code goes by: the number of the checks of a choice, for a list that passes 14
-pub by_number : (s : Shell) (f : Forces) (ps : List ℕ) → list_allowed ps ≡ true → (n : ℕ) → n ≡ refusal_of s (suited s.radius) →
-    refusal_by (choice_checks s f ps) ≡ pick (eqb n 6) 6 (pick (eqb n 7) 7 (pick (forces_allowed f) n 15))
-by_number s f ps list n is = rw (list, is ∙ suited_refusal s) (in_order s (forces_allowed f))
+-- what the code goes by: the checks of a choice, for a list that passes 14
+pub by_shell : (s : Shell) (f : Forces) (ps : List ℕ) → list_allowed ps ≡ true → (r : Result (Unit {0}) Refusal) → r ≡ refusal_of s (suited s.radius) →
+    refusal_by (choice_checks s f ps) ≡ pick (early r) r (pick (forces_allowed f) r (Err Refusal.Force))
+by_shell s f ps list r is = rw (list, is ∙ suited_refusal s) (in_order s (forces_allowed f))
+
+-- the number of the first check that is broken, 0 where none is
+abbrev pub number_of : Result (Unit {0}) Refusal → ℕ
+number_of (Ok u) = 0
+number_of (Err r) = refusal_number r
+
+-- the same by numbers: 15 comes behind 6 and 7 alone
+pub by_number : (s : Shell) (f : Forces) (ps : List ℕ) → list_allowed ps ≡ true → (n : ℕ) → n ≡ number_of (refusal_of s (suited s.radius)) →
+    number_of (refusal_by (choice_checks s f ps)) ≡ pick (eqb n 6) 6 (pick (eqb n 7) 7 (pick (forces_allowed f) n 15))
+by_number s f ps list n is = rw (is, by_shell s f ps list (refusal_of s (suited s.radius)) refl) (go (refusal_of s (suited s.radius)) (forces_allowed f))
+  where
+    forced : (r : Result (Unit {0}) Refusal) (b : Bool) → number_of (pick b r (Err Refusal.Force)) ≡ pick b (number_of r) 15
+    forced r true = refl
+    forced r false = refl
+
+    go : (r : Result (Unit {0}) Refusal) (b : Bool) → let n : ℕ = number_of r in number_of (pick (early r) r (pick b r (Err Refusal.Force))) ≡ pick (eqb n 6) 6 (pick (eqb n 7) 7 (pick b n 15))
+    go (Ok tt) b = forced (Ok tt) b
+    go (Err Refusal.Range) b = refl
+    go (Err Refusal.Edges) b = refl
+    go (Err Refusal.SheetBytes) b = forced (Err Refusal.SheetBytes) b
+    go (Err Refusal.SheetLines) b = forced (Err Refusal.SheetLines) b
+    go (Err Refusal.ListingRoom) b = forced (Err Refusal.ListingRoom) b
+    go (Err Refusal.LineBytes) b = forced (Err Refusal.LineBytes) b
+    go (Err Refusal.Form) b = forced (Err Refusal.Form) b
+    go (Err Refusal.WallRatio) b = forced (Err Refusal.WallRatio) b
+    go (Err Refusal.LengthRatio) b = forced (Err Refusal.LengthRatio) b
+    go (Err Refusal.Imperfection) b = forced (Err Refusal.Imperfection) b
+    go (Err Refusal.Shortfall) b = forced (Err Refusal.Shortfall) b
+    go (Err Refusal.LineRoom) b = forced (Err Refusal.LineRoom) b
+    go (Err Refusal.Wind) b = forced (Err Refusal.Wind) b
+    go (Err Refusal.PlateList) b = forced (Err Refusal.PlateList) b
+    go (Err Refusal.Force) b = forced (Err Refusal.Force) b
+    go (Err Refusal.Pressure) b = forced (Err Refusal.Pressure) b
 
 -- ---- a plate by its record without any stress
 
-module _ (s : Shell) (t : ℕ) (unbroken : refusal_of s t ≡ 0) where
+pub ok_unit : (r : Result (Unit {0}) Refusal) → is_ok r ≡ true → Ok tt ≡ r
+ok_unit (Ok x) e = refl
+ok_unit (Err r) e = cc
+
+module _ (s : Shell) (t : ℕ) (unbroken : is_ok (refusal_of s t) ≡ true) where
   all_passed : AllPassed (checks (unloaded s t))
   unfolding refusal_of
-  all_passed = refusal_none (checks (unloaded s t)) (above_none (unloaded s t)) (refusal_of s t) refl (omega (arith, unbroken))
+  all_passed = refusal_none (checks (unloaded s t)) (ok_unit _ unbroken)
 
   pub unbroken_within : InLimits (cylinder_of (wall_of s t))
   unbroken_within = cylinder_within (unloaded s t) all_passed
@@ -101,8 +149,11 @@ module _ (s : Shell) (t : ℕ) (unbroken : refusal_of s t ≡ 0) where
   unbroken_thickness = (ranges (unloaded s t) all_passed.0).thickness.most
 
 module _ (s : Shell) (f : Forces) (t : ℕ) (fit : fits s f t ≡ true) where
-  unbroken : refusal_of s t ≡ 0
-  unbroken = eqb-true (refusal_of s t) 0 (and_true (eqb (refusal_of s t) 0) (forces_up_to (7 * t) f) fit).0
+  unbroken : is_ok (refusal_of s t) ≡ true
+  unbroken = (and_true (is_ok (refusal_of s t)) (forces_up_to (7 * t) f) fit).0
+
+  pub fits_passed : AllPassed (checks (unloaded s t))
+  fits_passed = all_passed s t unbroken
 
   pub fits_within : InLimits (cylinder_of (wall_of s t))
   fits_within = unbroken_within s t unbroken
@@ -113,7 +164,7 @@ module _ (s : Shell) (f : Forces) (t : ℕ) (fit : fits s f t ≡ true) where
   -- so that the stress of a force is a small fraction
   pub fits_forces : (f.axial ≤ 70000) × (f.ring ≤ 70000) × (f.shear ≤ 70000)
   fits_forces =
-      let (x, yz) = and_true (leb f.axial (7 * t)) (leb f.ring (7 * t) && leb f.shear (7 * t)) (and_true (eqb (refusal_of s t) 0) (forces_up_to (7 * t) f) fit).1 in
+      let (x, yz) = and_true (leb f.axial (7 * t)) (leb f.ring (7 * t) && leb f.shear (7 * t)) (and_true (is_ok (refusal_of s t)) (forces_up_to (7 * t) f) fit).1 in
       let (y, z) = and_true (leb f.ring (7 * t)) (leb f.shear (7 * t)) yz in (
         omega (arith, fits_thickness, leb-true f.axial (7 * t) x),
         omega (arith, fits_thickness, leb-true f.ring (7 * t) y),

@@ -1,11 +1,12 @@
 -- SCOPE 10.14, 10.15 and 24: choosing a stock plate: the checks in their order, the plates that are passed over, the exact sum of a plate, what is
 -- laid down of the choice, and its number.
-use Rattle.std.specs.Prelude.{ℕ, ◌+◌, ◌*◌, ◌<◌, ◌≡◌, Bool, true, ◌&&◌, List, [], ◌∷◌, leb, ltb, length, get_or}
+use Rattle.std.specs.Prelude.{ℕ, ◌+◌, ◌*◌, ◌<◌, ◌≡◌, Bool, true, ◌&&◌, List, [], ◌∷◌, leb, ltb, length, get_or, Option, None, Some, Result, Ok, Err}
 use Rattle.cylinder.specs.Fraction.{Fraction, ◌//◌, whole, ◌at_most◌}
 use Rattle.cylinder.specs.Sum.{Over}
+use Rattle.answer.specs.declared.Refusal.{Refusal}
 use Rattle.answer.specs.declared.Verdict.TheVariants.{Holds}
 use Rattle.answer.specs.declared.Judgement.{Judgement}
-use Rattle.answer.specs.declared.Answer.TheVariants.{Judged}
+use Rattle.answer.specs.Answers.{refusal_number}
 use Rattle.answer.specs.Checks.{Check, check, FirstBroken, AllPassed}
 use Rattle.answer.specs.Right.{RightBy}
 use Rattle.record.specs.declared.Wall.{Wall}
@@ -13,8 +14,6 @@ use Rattle.record.specs.Limits.{from_to, radius_in_range, thickness_in_range, le
 use Rattle.record.specs.Right.{BoundsOf, Means}
 use Rattle.plates.specs.declared.Shell.{Shell}
 use Rattle.plates.specs.declared.Forces.{Forces}
-use Rattle.plates.specs.declared.Chosen.{Chosen}
-use Rattle.plates.specs.declared.Chosen.TheVariants.{Place, NoPlate, Refused}
 
 -- the wall of a plate of thickness t; the shortfall counts as 0
 abbrev pub wall_of : Shell → ℕ → Wall
@@ -58,12 +57,12 @@ forces_allowed f = forces_up_to 100000 f
 -- ---- the checks in their order
 abbrev pub choice_checks : Shell → Forces → List ℕ → List Check
 choice_checks s f ps =
-    check 14 (list_allowed ps)
-    ∷ check 6 (shell_in_range s)
-    ∷ check 7 (edges_known (bare s))
-    ∷ check 15 (forces_allowed f)
-    ∷ check 9 (length_ratio (bare s))
-    ∷ check 10 (tolerated (bare s))
+    check Refusal.PlateList (list_allowed ps)
+    ∷ check Refusal.Range (shell_in_range s)
+    ∷ check Refusal.Edges (edges_known (bare s))
+    ∷ check Refusal.Force (forces_allowed f)
+    ∷ check Refusal.LengthRatio (length_ratio (bare s))
+    ∷ check Refusal.Imperfection (tolerated (bare s))
     ∷ []
 
 -- ---- the stress of a force of f N/mm on a wall of t hundredths of a mm: 1 N/mm on 1/100 mm is 100 N/mm², so 100,000 kN/m²
@@ -84,7 +83,7 @@ is_candidate s f t = thickness_in_range (wall_of s t) && (wall_ratio (wall_of s 
 
 -- a judgement of a candidate is right as an answer that no check turns back: L and U enclose the exact sum and are close, the verdict is that of L and U
 abbrev pub RightPlate : Shell → Forces → ℕ → Judgement → Type 0
-RightPlate s f t j = RightBy [] (BoundsOf (PlateOver s f t)) (Judged j)
+RightPlate s f t j = RightBy [] (BoundsOf (PlateOver s f t)) (Ok j)
 
 -- ---- the choice, by a rule that judges plates: it looks at a shell, its forces and one plate alone
 
@@ -96,12 +95,16 @@ HoldsBy rule s f t = (is_candidate s f t ≡ true) × ((rule s f t).verdict ≡ 
 abbrev pub plate_at : List ℕ → ℕ → ℕ
 plate_at ps i = get_or ps i 0
 
+-- what is chosen: the place of a plate, counted from 1; none; or a refusal
+abbrev pub Chosen : Type 0
+Chosen = Result (Option ℕ) Refusal
+
 -- refused by the first check broken; or a plate holds and none before it, and its place, counted from 1, is given; or no plate holds
 pub data Chooses (rule : Shell → Forces → ℕ → Judgement) (s : Shell) (f : Forces) (ps : List ℕ) : Chosen → Type 0 where
-  refuses : (n : ℕ) → FirstBroken (choice_checks s f ps) n → Chooses rule s f ps (Refused n)
+  refuses : (n : Refusal) → FirstBroken (choice_checks s f ps) n → Chooses rule s f ps (Err n)
   takes : AllPassed (choice_checks s f ps) → (i : ℕ) → i < length ps → HoldsBy rule s f (plate_at ps i) →
-      ((j : ℕ) → j < i → ¬ (HoldsBy rule s f (plate_at ps j))) → Chooses rule s f ps (Place (i + 1))
-  finds_none : AllPassed (choice_checks s f ps) → ((j : ℕ) → j < length ps → ¬ (HoldsBy rule s f (plate_at ps j))) → Chooses rule s f ps NoPlate
+      ((j : ℕ) → j < i → ¬ (HoldsBy rule s f (plate_at ps j))) → Chooses rule s f ps (Ok (Some (i + 1)))
+  finds_none : AllPassed (choice_checks s f ps) → ((j : ℕ) → j < length ps → ¬ (HoldsBy rule s f (plate_at ps j))) → Chooses rule s f ps (Ok None)
 
 -- what is laid down of a choice; the contracts of `choose` and of the call from C name one rule for all shells and lists
 pub record RightChoice (rule : Shell → Forces → ℕ → Judgement) (s : Shell) (f : Forces) (ps : List ℕ) (c : Chosen) : Type 0 where
@@ -112,9 +115,9 @@ pub record RightChoice (rule : Shell → Forces → ℕ → Judgement) (s : Shel
 
 -- ---- the number of a choice, for C: a refusal as it is, 15 at most; 100 where no plate holds; 101 to 164 for the places 1 to 64
 abbrev pub chosen_number : Chosen → ℕ
-chosen_number (Refused n) = n
-chosen_number NoPlate = 100
-chosen_number (Place k) = 100 + k
+chosen_number (Err r) = refusal_number r
+chosen_number (Ok None) = 100
+chosen_number (Ok (Some k)) = 100 + k
 
 -- n is the number of a choice as it is laid down
 pub record NumberOfChoice (rule : Shell → Forces → ℕ → Judgement) (s : Shell) (f : Forces) (ps : List ℕ) (n : ℕ) : Type 0 where

@@ -2,10 +2,10 @@
 #![tactic(auto)]
 
 ghost use Rattle.std.specs.Prelude.{◌≡◌, [], ◌∷◌, ◌+◌, ◌*◌, ◌^◌, ◌≤◌, leb, length};
-ghost use Rattle.wide.specs.Value.{limbs, Is};
+ghost use Rattle.wide.specs.Number.{IsNumber};
 ghost use Rattle.factors.specs.Product.{prod};
 
-use wide::LIMBS;
+use wide::Number;
 
 // 14 and 12 factors, with squares: (23 c e w p²)² w v at most (20,000 l y q²)² (200 r).
 fn fourteen(c: u64, e: u64, w: u64, p: u64, v: u64, l: u64, y: u64, q: u64, r: u64) -> bool
@@ -57,23 +57,19 @@ fn sums(c: u64, e: u64, w: u64, p: u64, l: u64, y: u64, q: u64, r: u64) -> bool
 }
 
 // The fifth power of a product of factors.
-fn fifth(l: &mut [u64; LIMBS], f: &[u64]) -> usize
-    requires { (length l.old ≡ limbs) × (length f.now ≤ 8) }
-    ensures { Is l.new result (10 * length f.now + 5) (prod f.now ^ 5) }
+fn fifth(f: &[u64]) -> Number
+    requires { length f.now ≤ 8 }
+    ensures { IsNumber result (10 * length f.now + 5) (prod f.now ^ 5) }
 {
-    let mut a = [0u64; LIMBS];
-    let n = factors::product_of(&mut a, f);
-    product::fifth_power(l, &a, n)
+    product::fifth_power(&factors::product_of(f))
 }
 
 // Fifth powers, and a factor on one side: (n y)⁵ b at most (m s)⁵.
 fn fifths(n: u64, y: u64, b: u64, m: u64, s: u64) -> bool
     ensures { result ≡ leb ((n * y) ^ 5 * b) ((m * s) ^ 5) }
 {
-    let mut f = [0u64; LIMBS];
-    let i = fifth(&mut f, &[n, y]);
-    let j = product::times(&mut f, i, b);
-    let mut g = [0u64; LIMBS];
-    let k = fifth(&mut g, &[m, s]);
-    order::at_most(&f, j, &g, k)
+    let mut f = fifth(&[n, y]);
+    product::times(&mut f, b);
+    let g = fifth(&[m, s]);
+    order::at_most(&f, &g)
 }

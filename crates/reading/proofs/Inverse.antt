@@ -1,5 +1,6 @@
 -- Reading is the inverse of writing: the format of each part, composed as its text is.
 -- Assumes nothing.
+use Rattle.std.proofs.Common.{Option, Some, None, Err}
 use mathlib.Core.Path.{◌≡◌, refl, sym, ap, ◌∙◌}
 use Prim.Native.Nat.{ℕ}
 use native.Mathlib.Omega.{arith}
@@ -9,20 +10,20 @@ use mathlib.Core.Logic.{◌↔◌, inl, inr}
 use Rattle.text.specs.Bytes.{ascii, decimal}
 use Rattle.text.specs.Slices.{up_to}
 use Rattle.word.specs.Numbers.{number_of, plain_start}
-use Rattle.word.specs.declared.Numeral.{Numeral}
-use Rattle.word.specs.declared.Numeral.TheVariants.{Value, Missing}
 use lib.ListN.{length}
 use Prim.Native.Nat.{◌≤◌}
 use mathlib.Core.List.{◌∷◌}
-use Rattle.format.specs.Readers.{nothing, starts_with, fixed, number, sequence, changed, whole}
-use Rattle.format.proofs.Formats.{Format, Kinds, Always, EndsWord, format_number, format_sequence, format_changed, format_as, format_before, format_closed, format_one_of, format_one_to, format_optional, Whole, spelt, unspelt, none_whole, whole_none, whole_spells, whole_means, read_whole, format_whole}
+use Rattle.format.specs.Readers.{starts_with, fixed, number, sequence, changed, whole}
+use Rattle.format.proofs.Formats.{Format, Kinds, Always, EndsWord, format_number, format_sequence, format_changed, format_as, format_before, format_closed, format_one_of, format_one_to, format_optional, Whole, none_whole, whole_none, whole_spells, whole_means, read_whole, format_whole}
 use Rattle.record.specs.declared.Ring.TheVariants.{Stress, Wind}
 use Rattle.record.specs.declared.Group.{Group}
-use Rattle.record.specs.declared.Inner.{Inner}
 use Rattle.record.specs.declared.Wall.{Wall}
 use Rattle.cases.specs.Cases.{LoadCases}
 use Rattle.reading.specs.Text.{seven_text, ring_text, group_text, groups_text, inner_text, shell_text, text, text_without_shortfall, SmallNumber, SmallRing, SmallGroup, SmallGroups, SmallInner, Small, Spells}
-use Rattle.reading.specs.Reading.{Form, Read, Refused, Shown, wall_in, wind_in, group_in, cases_in, spaced, shortfall, shown, wind, ring, group, groups, pressure, inner, line, form_of}
+use Rattle.pressure.specs.declared.Order.{Order}
+use Rattle.answer.specs.declared.Refusal.{Refusal}
+use Rattle.reading.specs.Answering.{answer_form}
+use Rattle.reading.specs.Reading.{Shown, wall_in, wind_in, group_in, cases_in, spaced, shortfall, shown, wind, ring, group, groups, pressure, inner, line, form_of}
 
 -- ---- the parts
 
@@ -30,25 +31,25 @@ format_spaced : Format SmallNumber EndsWord (λ n. ascii " " ++ decimal n) space
 format_spaced = format_before (ascii " ") format_number
 
 -- d after a space, or no bytes
-abbrev shortfall_text : Numeral → List ℕ
-shortfall_text (Value d) = ascii " " ++ decimal d
-shortfall_text Missing = []
+abbrev shortfall_text : Option ℕ → List ℕ
+shortfall_text (Some d) = ascii " " ++ decimal d
+shortfall_text None = []
 
-abbrev SmallShortfall : Numeral → Type 0
-SmallShortfall (Value d) = SmallNumber d
-SmallShortfall Missing = Unit {0}
+abbrev SmallShortfall : Option ℕ → Type 0
+SmallShortfall (Some d) = SmallNumber d
+SmallShortfall None = Unit {0}
 
 -- what may stand after it: no further number
 abbrev AfterWall : List ℕ → Type 0
-AfterWall rest = EndsWord rest × (spaced rest ≡ nothing)
+AfterWall rest = EndsWord rest × (spaced rest ≡ None)
 
 format_shortfall : Format SmallShortfall AfterWall shortfall_text shortfall
 unfolding shortfall
-format_shortfall = format_optional Value Missing kinds tt refl format_spaced
+format_shortfall = format_optional Some None kinds tt refl format_spaced
   where
-    kinds : Kinds Value (λ (u : Unit {0}). Missing)
-    kinds (Value n) = inl (n, refl)
-    kinds Missing = inr (tt, refl)
+    kinds : Kinds {A = ℕ} {C = Option ℕ} Some (λ (u : Unit {0}). None)
+    kinds (Some n) = inl (n, refl)
+    kinds None = inr (tt, refl)
 
 -- what a line shows of a wall
 abbrev SmallShown : Shown → Type 0
@@ -76,9 +77,9 @@ format_shown =
     (λ b rest small follows. refl))
     (λ b rest small follows. refl))
   where
-    last : (d : Numeral) (rest : List ℕ) → SmallShortfall d → AfterWall rest → EndsWord (shortfall_text d ++ rest)
-    last (Value d) rest small follows = refl
-    last Missing rest small follows = follows.0
+    last : (d : Option ℕ) (rest : List ℕ) → SmallShortfall d → AfterWall rest → EndsWord (shortfall_text d ++ rest)
+    last (Some d) rest small follows = refl
+    last None rest small follows = follows.0
 
 -- σφ or wind, after a space
 format_wind : Format (λ p. SmallNumber p.0 × SmallNumber p.1) Always (λ p. ascii " " ++ ring_text (wind_in p)) wind
@@ -109,25 +110,25 @@ format_group =
 
 -- one to eight groups: what may follow them is no group
 abbrev NoGroup : List ℕ → Type 0
-NoGroup rest = Unit {0} × (group rest ≡ nothing)
+NoGroup rest = Unit {0} × (group rest ≡ None)
 
 pub format_groups : Format SmallGroups NoGroup groups_text groups
 unfolding groups
 format_groups = format_one_to format_group (λ g rest small follows. tt) 8
 
 -- nothing, or a pressure after a space
-format_inner : Format SmallInner (λ rest. Always rest × (pressure rest ≡ nothing)) inner_text inner
+format_inner : Format SmallInner (λ rest. Always rest × (pressure rest ≡ None)) inner_text inner
 unfolding inner pressure
-format_inner = format_optional Inner.Given Inner.Missing kinds tt refl (format_as (λ p h. h) (λ p h. h) (λ rest follows. follows) (λ p. simp append_assoc) (format_closed (ascii ")") (λ rest. refl) (format_before (ascii " (inner ") format_number)))
+format_inner = format_optional Some None kinds tt refl (format_as (λ p h. h) (λ p h. h) (λ rest follows. follows) (λ p. simp append_assoc) (format_closed (ascii ")") (λ rest. refl) (format_before (ascii " (inner ") format_number)))
   where
-    kinds : Kinds Inner.Given (λ (u : Unit {0}). Inner.Missing)
-    kinds (Inner.Given p) = inl (p, refl)
-    kinds Inner.Missing = inr (tt, refl)
+    kinds : Kinds {A = ℕ} {C = Option ℕ} Some (λ (u : Unit {0}). None)
+    kinds (Some p) = inl (p, refl)
+    kinds None = inr (tt, refl)
 
 -- ---- the line
 
 abbrev Line : Type 0
-Line = Shown × (List Group × Inner)
+Line = Shown × (List Group × Option ℕ)
 
 abbrev SmallLine : Line → Type 0
 SmallLine p = SmallShown p.0 × (SmallGroups p.1.0 × SmallInner p.1.1)
@@ -137,14 +138,14 @@ line_text p = shell_text (shown_text p.0) p.1.0 p.1.1
 
 -- what may stand after the pressure: no further one, and no group
 abbrev AfterInner : List ℕ → Type 0
-AfterInner rest = (Always rest × (pressure rest ≡ nothing)) × (group rest ≡ nothing)
+AfterInner rest = (Always rest × (pressure rest ≡ None)) × (group rest ≡ None)
 
-after_groups : (i : Inner) (rest : List ℕ) → AfterInner rest → NoGroup (inner_text i ++ rest)
+after_groups : (i : Option ℕ) (rest : List ℕ) → AfterInner rest → NoGroup (inner_text i ++ rest)
 unfolding group changed sequence fixed starts_with
-after_groups (Inner.Given p) rest follows = (tt, refl)
-after_groups Inner.Missing rest follows = (tt, follows.1)
+after_groups (Some p) rest follows = (tt, refl)
+after_groups None rest follows = (tt, follows.1)
 
-after_wall : (gs : List Group) (i : Inner) (rest : List ℕ) → 1 ≤ length gs → AfterWall ((groups_text gs ++ inner_text i) ++ ascii ")" ++ rest)
+after_wall : (gs : List Group) (i : Option ℕ) (rest : List ℕ) → 1 ≤ length gs → AfterWall ((groups_text gs ++ inner_text i) ++ ascii ")" ++ rest)
 unfolding changed sequence fixed starts_with number up_to number_of plain_start
 after_wall [] i rest some = absurd (omega arith)
 after_wall (g ∷ gs) i rest some = (refl, refl)
@@ -159,7 +160,7 @@ format_line =
     (λ p rest small follows. after_wall p.0 p.1 rest small.0.0))
 
 -- the numbers of a wall, with such a shortfall shown
-abbrev numbers : Wall → Numeral → Shown
+abbrev numbers : Wall → Option ℕ → Shown
 numbers w d = (w.radius, (w.thickness, (w.length, (w.modulus, (w.yield_stress, (w.edges, (w.imperfection, d)))))))
 
 -- a wall with another shortfall
@@ -183,58 +184,54 @@ module _ (l : List ℕ) where
   -- a line spells the load cases of what it shows
   spells_shown : (p : Line) → Shows p → Spells l (cases_in p)
   unfolding Spells text text_without_shortfall Small
-  spells_shown ((r, (t, (n, (E, (fy, (edges, (a, Value d))))))), (gs, i)) ((s, (s', s'')), is) =
-      (((s.0, s.1.0, s.1.1.0, s.1.1.1.0, s.1.1.1.1.0, s.1.1.1.1.1.0, s.1.1.1.1.1.1.0, s.1.1.1.1.1.1.1), s', s''), inl (is ∙ ap (λ (x : List ℕ). shell_text x gs i) (sym (append_assoc (seven_text (wall_in (r, (t, (n, (E, (fy, (edges, (a, Value d))))))))) (ascii " ") (decimal d)))))
-  spells_shown ((r, (t, (n, (E, (fy, (edges, (a, Missing))))))), (gs, i)) ((s, (s', s'')), is) =
-      (((s.0, s.1.0, s.1.1.0, s.1.1.1.0, s.1.1.1.1.0, s.1.1.1.1.1.0, s.1.1.1.1.1.1.0, lit< tt), s', s''), inr (refl, is ∙ ap (λ (x : List ℕ). shell_text x gs i) (append-nil (seven_text (wall_in (r, (t, (n, (E, (fy, (edges, (a, Missing))))))))))))
+  spells_shown ((r, (t, (n, (E, (fy, (edges, (a, Some d))))))), (gs, i)) ((s, (s', s'')), is) =
+      (((s.0, s.1.0, s.1.1.0, s.1.1.1.0, s.1.1.1.1.0, s.1.1.1.1.1.0, s.1.1.1.1.1.1.0, s.1.1.1.1.1.1.1), s', s''), inl (is ∙ ap (λ (x : List ℕ). shell_text x gs i) (sym (append_assoc (seven_text (wall_in (r, (t, (n, (E, (fy, (edges, (a, Some d))))))))) (ascii " ") (decimal d)))))
+  spells_shown ((r, (t, (n, (E, (fy, (edges, (a, None))))))), (gs, i)) ((s, (s', s'')), is) =
+      (((s.0, s.1.0, s.1.1.0, s.1.1.1.0, s.1.1.1.1.0, s.1.1.1.1.1.0, s.1.1.1.1.1.1.0, lit< tt), s', s''), inr (refl, is ∙ ap (λ (x : List ℕ). shell_text x gs i) (append-nil (seven_text (wall_in (r, (t, (n, (E, (fy, (edges, (a, None))))))))))))
 
   -- and where it spells load cases, it shows what means them
   shows_spelt : (c : LoadCases) → Spells l c → (p : Line) × (Shows p × (cases_in p ≡ c))
   unfolding Spells text text_without_shortfall Small
   shows_spelt c (((r, t, n, E, fy, edges, a, d), s', s''), inl is) =
-      ((numbers c.wall (Value c.wall.shortfall), (c.groups, c.inner)), ((((r, (t, (n, (E, (fy, (edges, (a, d))))))), (s', s'')), is ∙ ap (λ (x : List ℕ). shell_text x c.groups c.inner) (append_assoc (seven_text c.wall) (ascii " ") (decimal c.wall.shortfall))), refl))
+      ((numbers c.wall (Some c.wall.shortfall), (c.groups, c.inner)), ((((r, (t, (n, (E, (fy, (edges, (a, d))))))), (s', s'')), is ∙ ap (λ (x : List ℕ). shell_text x c.groups c.inner) (append_assoc (seven_text c.wall) (ascii " ") (decimal c.wall.shortfall))), refl))
   shows_spelt c (((r, t, n, E, fy, edges, a, d), s', s''), inr (none, is)) = (
-    (numbers c.wall Missing, (c.groups, c.inner)),
+    (numbers c.wall None, (c.groups, c.inner)),
     ((((r, (t, (n, (E, (fy, (edges, (a, tt))))))), (s', s'')), is ∙ ap (λ (x : List ℕ). shell_text x c.groups c.inner) (sym (append-nil (seven_text c.wall)))), λ i. record { wall = lacking (sym none i) c.wall; groups = c.groups; inner = c.inner }),
   )
 
--- the form of a line: either it spells load cases and is read as they are, or it spells none and is refused by 5
-pub form_right : (l : List ℕ) → Whole (Spells l) Read (Refused 5) (form_of l)
+-- the form of a line: either it spells load cases and is read as they are, or it spells none
+pub form_right : (l : List ℕ) → Whole (Spells l) Some None (form_of l)
 unfolding form_of
 form_right l =
-    whole_means cases_in Read (Refused 5) (λ p is. spells_shown l p is) (λ c is. let (p, (shows, means)) = shows_spelt l c is in (p, shows)) (form_of l)
-    (format_whole format_line tt (λ p. Read (cases_in p)) (Refused 5) l)
+    whole_means cases_in Some None (λ p is. spells_shown l p is) (λ c is. let (p, (shows, means)) = shows_spelt l c is in (p, shows)) (form_of l)
+    (format_whole format_line tt (λ p. Some (cases_in p)) None l)
 
 -- ---- what follows
 
-apart : (c : LoadCases) → ◌≡◌ {A = Form} (Read c) (Refused 5) → ⊥
+apart : (c : LoadCases) → ◌≡◌ {A = Option LoadCases} (Some c) None → ⊥
 apart c e = let z : ◌≡◌ {A = ℕ} 0 1 = cc in omega arith
 
-same : (c d : LoadCases) → Read c ≡ Read d → c ≡ d
+same : (c d : LoadCases) → Some c ≡ Some d → c ≡ d
 same c d e = cc
 
 -- a line that spells load cases is read as they are
-pub read_text : (l : List ℕ) (c : LoadCases) → Spells l c → form_of l ≡ Read c
+pub read_text : (l : List ℕ) (c : LoadCases) → Spells l c → form_of l ≡ Some c
 unfolding form_of
 read_text l c is =
     let (p, ((small, same), means)) = shows_spelt l c is in
-    ap (whole (λ q. Read (cases_in q)) (Refused 5)) (read_whole format_line tt p l small same) ∙ ap Read means
+    ap (whole (λ q. Some (cases_in q)) None) (read_whole format_line tt p l small same) ∙ ap Some means
 
 -- and only such a line is
-pub text_read : (l : List ℕ) (c : LoadCases) → form_of l ≡ Read c → Spells l c
+pub text_read : (l : List ℕ) (c : LoadCases) → form_of l ≡ Some c → Spells l c
 text_read l c e = whole_spells apart same (form_of l) (form_right l) c e
 
--- a line is refused exactly if it spells none
-pub other_text : (l : List ℕ) → (form_of l ≡ Refused 5) ↔ ((c : LoadCases) → Spells l c → ⊥)
+-- a line is none exactly if it spells none
+pub other_text : (l : List ℕ) → (form_of l ≡ None) ↔ ((c : LoadCases) → Spells l c → ⊥)
 other_text l = (λ e. whole_none apart (form_of l) (form_right l) e, λ without. none_whole (form_of l) (form_right l) without)
 
--- and by no other number
-pub refused_five : (l : List ℕ) (n : ℕ) → form_of l ≡ Refused n → n ≡ 5
-refused_five l n e = go (form_of l) (form_right l) e
-  where
-    go : (f : Form) → Whole (Spells l) Read (Refused 5) f → f ≡ Refused n → n ≡ 5
-    go _ (spelt c is) q = absurd (let z : ◌≡◌ {A = ℕ} 0 1 = cc in omega arith)
-    go _ (unspelt none) q = cc
+-- and then it is refused by 5, and by no other number
+pub refused_five : (o : Order) (l : List ℕ) → form_of l ≡ None → answer_form o (form_of l) ≡ Err Refusal.Form
+refused_five o l e = rw e refl
 
 -- a line spells no two
 pub spells_once : (l : List ℕ) (c d : LoadCases) → Spells l c → Spells l d → c ≡ d

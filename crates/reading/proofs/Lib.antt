@@ -4,3 +4,4 @@ pub mod Unique
 pub mod Shortfall
 pub mod OwnLines
 pub mod Orders
+pub mod Parts

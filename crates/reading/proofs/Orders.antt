@@ -1,4 +1,7 @@
 -- SCOPE 27.2: a line has the same answer by both readings of the pressure's test, or it is one that loses the gain, or a reading is in doubt. Assumes nothing.
+use Rattle.answer.specs.declared.Refusal.{Refusal}
+use Rattle.answer.specs.Answers.{Answer}
+use Rattle.std.specs.Prelude.{Err}
 use mathlib.Core.Path.{◌≡◌, refl, sym, ap, ◌∙◌}
 use mathlib.Core.Logic.{◌⊎◌, inl, inr}
 use mathlib.Core.List.{List}
@@ -8,8 +11,6 @@ use lib.Dec.{ltb}
 use Rattle.algebra.specs.Choice.{pick}
 use Rattle.pressure.specs.declared.Order.TheVariants.{ToleranceFirst, PressureFirst}
 use Rattle.pressure.proofs.Orders.{same_reading}
-use Rattle.answer.specs.declared.Answer.{Answer}
-use Rattle.answer.specs.declared.Answer.TheVariants.{Refused}
 use Rattle.record.specs.Limits.{pressure_of, cylinder_of}
 use Rattle.cases.specs.Cases.{LoadCases}
 use Rattle.cases.specs.Answering.{cases_answer}
@@ -24,7 +25,7 @@ use Rattle.reading.proofs.Answers.{answer_long, answer_five, answer_right}
 module _ (l : List ℕ) (c : LoadCases) (is : Spells l c) where
   same_line : cases_answer ToleranceFirst c ≡ cases_answer PressureFirst c → answer_to ToleranceFirst l ≡ answer_to PressureFirst l
   unfolding answer_to
-  same_line same = rw (read_text l c is) (ap (λ (a : Answer). pick (ltb 512 (length l)) (Refused 4) a) same)
+  same_line same = rw (read_text l c is) (ap (λ (a : Answer). pick (ltb 512 (length l)) (Err Refusal.LineBytes) a) same)
 
   -- without pressure, or with no imperfections over what is permitted
   pub line_same : (pressure_of c.inner ≡ 0) ⊎ (c.wall.imperfection ≤ 1000) → answer_to ToleranceFirst l ≡ answer_to PressureFirst l

@@ -8,9 +8,10 @@ use native.Mathlib.Omega.{arith}
 use lib.ListN.{length}
 use Rattle.pressure.specs.declared.Order.{Order}
 use Rattle.format.specs.Texts.{Each}
+use Rattle.std.specs.Prelude.{Ok, Err}
+use Rattle.answer.specs.declared.Refusal.{Refusal}
+use Rattle.answer.specs.Answers.{Answer}
 use Rattle.answer.specs.declared.Judgement.{Judgement}
-use Rattle.answer.specs.declared.Answer.{Answer}
-use Rattle.answer.specs.declared.Answer.TheVariants.{Refused, Judged}
 use Rattle.record.specs.declared.Group.{Group}
 use Rattle.record.specs.Answering.{judgement_of_record, record_answer}
 use Rattle.cases.specs.Cases.{LoadCases, alone, one_case, At}
@@ -40,14 +41,14 @@ module _ (o : Order) where
       sym (answer_read o (text one) short (form_of (text one)) refl one (read_text (text one) one (small, inl refl)) (cases_answer o one) refl) ∙ one_answer o c.wall g c.inner
 
   module _ (c : LoadCases) where
-    own_judged : (n : ℕ) (gs : List Group) → ((m : ℕ) (g : Group) → At gs m g → answer_to o (own_line c g) ≡ Judged (judgement_of_record o (alone c g))) → OwnJudged (answer_to o) c n gs (judgements o c n gs)
+    own_judged : (n : ℕ) (gs : List Group) → ((m : ℕ) (g : Group) → At gs m g → answer_to o (own_line c g) ≡ Ok (judgement_of_record o (alone c g))) → OwnJudged (answer_to o) c n gs (judgements o c n gs)
     unfolding judgements
     own_judged n [] own = tt
     own_judged n (g ∷ gs) own = (own 0 g refl, (refl, own_judged (suc n) gs (λ m h at. own (suc m) h at)))
 
   -- of load cases with a judgement
-  module _ (l : List ℕ) (c : LoadCases) (spelt : Spells l c) (j : Judgement) (f : cases_answer o c ≡ Judged j) where
-    own_is : (m : ℕ) (g : Group) → At c.groups m g → answer_to o (own_line c g) ≡ Judged (judgement_of_record o (alone c g))
+  module _ (l : List ℕ) (c : LoadCases) (spelt : Spells l c) (j : Judgement) (f : cases_answer o c ≡ Ok j) where
+    own_is : (m : ℕ) (g : Group) → At c.groups m g → answer_to o (own_line c g) ≡ Ok (judgement_of_record o (alone c g))
     unfolding Spells
     own_is m g at = own_line_lem c spelt.0 m g at ∙ alone_judged o c j f m g at
 
@@ -65,25 +66,25 @@ module _ (o : Order) where
         }
 
   -- a judgement of the program's goes by the lines of the load cases alone
-  pub by_own_lines : (l : List ℕ) (j : Judgement) → answer_to o l ≡ Judged j → ByOwnLines (answer_to o) l j
+  pub by_own_lines : (l : List ℕ) (j : Judgement) → answer_to o l ≡ Ok j → ByOwnLines (answer_to o) l j
   by_own_lines l j e = go (answer_to o l) (answer_right o l) e refl
     where
-      go : (a : Answer) → RightLine o l a → a ≡ Judged j → a ≡ answer_to o l → ByOwnLines (answer_to o) l j
+      go : (a : Answer) → RightLine o l a → a ≡ Ok j → a ≡ answer_to o l → ByOwnLines (answer_to o) l j
       go _ (too_long h) f is = absurd (let z : ◌≡◌ {A = ℕ} 0 1 = cc in omega arith)
       go _ (not_form h none) f is = absurd (let z : ◌≡◌ {A = ℕ} 0 1 = cc in omega arith)
       go _ (of_cases c a h spelt right) f is =
           by_cases l c spelt j (answer_read o l h (form_of l) refl c (read_text l c spelt) (cases_answer o c) refl ∙ sym is ∙ f) c.groups refl (spells_some l c spelt)
 
   -- and a line is refused by the number of one of them, if it spells load cases
-  pub refused_own : (l : List ℕ) (c : LoadCases) (n : ℕ) → length l ≤ 512 → Spells l c → answer_to o l ≡ Refused n → (m : ℕ) × ((g : Group) × (At c.groups m g × (answer_to o (own_line c g) ≡ Refused n)))
+  pub refused_own : (l : List ℕ) (c : LoadCases) (n : Refusal) → length l ≤ 512 → Spells l c → answer_to o l ≡ Err n → (m : ℕ) × ((g : Group) × (At c.groups m g × (answer_to o (own_line c g) ≡ Err n)))
   unfolding Spells
   refused_own l c n h spelt e =
-      let is : cases_answer o c ≡ Refused n = answer_read o l h (form_of l) refl c (read_text l c spelt) (cases_answer o c) refl ∙ e in
+      let is : cases_answer o c ≡ Err n = answer_read o l h (form_of l) refl c (read_text l c spelt) (cases_answer o c) refl ∙ e in
       let (m, (g, (at, f))) = refused_alone o c (spells_some l c spelt) n is in
       (m, (g, (at, own_line_lem c spelt.0 m g at ∙ f)))
 
   -- and by some number if one of them is refused
-  pub own_refused : (l : List ℕ) (c : LoadCases) → length l ≤ 512 → Spells l c → (m : ℕ) (g : Group) → At c.groups m g → (n : ℕ) → answer_to o (own_line c g) ≡ Refused n → (k : ℕ) × (answer_to o l ≡ Refused k)
+  pub own_refused : (l : List ℕ) (c : LoadCases) → length l ≤ 512 → Spells l c → (m : ℕ) (g : Group) → At c.groups m g → (n : Refusal) → answer_to o (own_line c g) ≡ Err n → (k : Refusal) × (answer_to o l ≡ Err k)
   unfolding Spells
   own_refused l c h spelt m g at n e =
       let (k, is) = alone_refused o c m g at n (sym (own_line_lem c spelt.0 m g at) ∙ e) in

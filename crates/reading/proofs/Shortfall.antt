@@ -1,4 +1,6 @@
 -- A line whose d is missing is read as one with a d of 0, and has its answer. Assumes nothing.
+use Rattle.answer.specs.Answers.{Answer}
+use Rattle.std.proofs.Common.{Option, Some, None}
 use mathlib.Core.Path.{◌≡◌, refl, sym, ◌∙◌, subst}
 use Prim.Native.Nat.{ℕ, ◌*◌, ◌≤◌}
 use native.Mathlib.Omega.{arith}
@@ -11,12 +13,10 @@ use Rattle.text.proofs.Laws.{decimal_length}
 use Rattle.format.specs.Texts.{Each}
 use Rattle.record.specs.declared.Ring.{Ring}
 use Rattle.record.specs.declared.Ring.TheVariants.{Stress, Wind}
-use Rattle.record.specs.declared.Inner.{Inner}
 use Rattle.record.specs.declared.Group.{Group}
 use Rattle.cases.specs.Cases.{LoadCases, RightCases}
 use Rattle.cases.specs.Answering.{cases_answer}
 use Rattle.reading.specs.Text.{SmallNumber, SmallRing, SmallGroup, SmallInner, Small, ring_text, group_text, groups_text, inner_text, text, text_without_shortfall, Spells}
-use Rattle.answer.specs.declared.Answer.{Answer}
 use Rattle.reading.specs.Reading.{form_of}
 use Rattle.reading.specs.Answers.{RightLine, too_long, not_form, of_cases}
 use Rattle.reading.specs.Answering.{answer_to}
@@ -43,9 +43,9 @@ ring_short_lem : (r : Ring) → SmallRing r → length (ring_text r) ≤ 22
 ring_short_lem (Stress σφ) h = omega (arith, digits σφ h)
 ring_short_lem (Wind w v) (h, h') = simp length-append (omega (arith, digits w h, digits v h'))
 
-inner_short : (i : Inner) → SmallInner i → length (inner_text i) ≤ 16
-inner_short Inner.Missing h = omega arith
-inner_short (Inner.Given p) h = simp length-append (omega (arith, digits p h))
+inner_short : (i : Option ℕ) → SmallInner i → length (inner_text i) ≤ 16
+inner_short None h = omega arith
+inner_short (Some p) h = simp length-append (omega (arith, digits p h))
 
 group_short : (g : Group) → SmallGroup g → length (ascii " " ++ group_text g) ≤ 48
 group_short g (σx, ring, τ) = simp length-append (omega (arith, digits _ σx, ring_short_lem g.ring ring, digits _ τ))

@@ -5,9 +5,10 @@ use mathlib.Core.List.{List}
 use Prim.Native.Nat.{ℕ}
 use native.Mathlib.Omega.{arith}
 use Rattle.pressure.specs.declared.Order.{Order}
+use Rattle.std.specs.Prelude.{Ok, Err}
+use Rattle.answer.specs.declared.Refusal.{Refusal}
+use Rattle.answer.specs.Answers.{Answer}
 use Rattle.answer.specs.declared.Judgement.{Judgement}
-use Rattle.answer.specs.declared.Answer.{Answer}
-use Rattle.answer.specs.declared.Answer.TheVariants.{Refused, Judged}
 use Rattle.answer.proofs.Right
 use Rattle.cases.specs.Cases.{LoadCases, case_checks, Governs, RightCases}
 use Rattle.reading.specs.Text.{Spells}
@@ -32,16 +33,16 @@ module _ (o : Order) where
     two _ _ (of_cases c a h is right) (not_form h' none) = absurd (none c is)
     two _ _ (of_cases c a h is right) (of_cases d b h' is' right') = spelled c is right (subst (λ (x : LoadCases). RightCases o x b) (spells_once l d c is' is) right')
 
-    pub same_line_refusal : (n : ℕ) (b : Answer) → RightLine o l (Refused n) → RightLine o l b → b ≡ Refused n
-    same_line_refusal n b r s = go (two (Refused n) b r s)
+    pub same_line_refusal : (n : Refusal) (b : Answer) → RightLine o l (Err n) → RightLine o l b → b ≡ Err n
+    same_line_refusal n b r s = go (two (Err n) b r s)
       where
-        go : Two (Refused n) b → b ≡ Refused n
+        go : Two (Err n) b → b ≡ Err n
         go (same e) = sym e
         go (spelled c is p q) = Right.same_refusal (case_checks c) (Governs o c) n b p q
 
-    pub same_line_verdict : (i j : Judgement) → RightLine o l (Judged i) → RightLine o l (Judged j) → i.low ≡ j.low → i.high ≡ j.high → i.case ≡ j.case → i ≡ j
-    same_line_verdict i j r s low high case_is = go (two (Judged i) (Judged j) r s)
+    pub same_line_verdict : (i j : Judgement) → RightLine o l (Ok i) → RightLine o l (Ok j) → i.low ≡ j.low → i.high ≡ j.high → i.case ≡ j.case → i ≡ j
+    same_line_verdict i j r s low high case_is = go (two (Ok i) (Ok j) r s)
       where
-        go : Two (Judged i) (Judged j) → i ≡ j
+        go : Two (Ok i) (Ok j) → i ≡ j
         go (same e) = cc
         go (spelled c is p q) = let v = Right.same_verdict (case_checks c) (Governs o c) i j p q low high in λ k. record { verdict = v k; low = low k; high = high k; case = case_is k }

@@ -1,11 +1,11 @@
 -- SCOPE 9.5, 9.12, 9.13, 10.4, 10.5, 25.6, 26.2 to 26.6, 27.1 and 27.2: what is laid down of the answer to a line.
-use Rattle.std.specs.Prelude.{ℕ, suc, ◌≤◌, ◌<◌, ◌≡◌, ◌⊎◌, List, [], ◌∷◌, length}
+use Rattle.std.specs.Prelude.{ℕ, suc, ◌≤◌, ◌<◌, ◌≡◌, ◌⊎◌, List, [], ◌∷◌, length, Ok, Err}
 use Rattle.pressure.specs.declared.Order.{Order}
 use Rattle.pressure.specs.declared.Order.TheVariants.{ToleranceFirst, PressureFirst}
 use Rattle.pressure.specs.GainTest.{test_ratio, Loses, Doubt}
+use Rattle.answer.specs.declared.Refusal.{Refusal}
+use Rattle.answer.specs.Answers.{Answer}
 use Rattle.answer.specs.declared.Judgement.{Judgement}
-use Rattle.answer.specs.declared.Answer.{Answer}
-use Rattle.answer.specs.declared.Answer.TheVariants.{Refused, Judged}
 use Rattle.answer.specs.Governing.{governing}
 use Rattle.record.specs.declared.Group.{Group}
 use Rattle.record.specs.Limits.{pressure_of, cylinder_of}
@@ -18,8 +18,8 @@ line_most = 512
 
 -- the line l has the answer a: 4 where it is longer; else 5 where it spells no load cases; else an answer that is right for those that it spells
 pub data RightLine (o : Order) (l : List ℕ) : Answer → Type 0 where
-  too_long : line_most < length l → RightLine o l (Refused 4)
-  not_form : length l ≤ line_most → ((c : LoadCases) → Spells l c → ⊥) → RightLine o l (Refused 5)
+  too_long : line_most < length l → RightLine o l (Err Refusal.LineBytes)
+  not_form : length l ≤ line_most → ((c : LoadCases) → Spells l c → ⊥) → RightLine o l (Err Refusal.Form)
   of_cases : (c : LoadCases) (a : Answer) → length l ≤ line_most → Spells l c → RightCases o c a → RightLine o l a
 
 -- ---- SCOPE 26.4 and 26.5: each load case is judged as it is on a line of its own
@@ -34,7 +34,7 @@ OwnJudged rule c n [] [] = Unit {0}
 OwnJudged rule c n [] (j ∷ js) = ⊥
 OwnJudged rule c n (g ∷ gs) [] = ⊥
 OwnJudged rule c n (g ∷ gs) (j ∷ js) =
-    (rule (own_line c g) ≡ Judged (record { verdict = j.verdict; low = j.low; high = j.high; case = 1 })) × ((j.case ≡ n) × OwnJudged rule c (suc n) gs js)
+    (rule (own_line c g) ≡ Ok (record { verdict = j.verdict; low = j.low; high = j.high; case = 1 })) × ((j.case ≡ n) × OwnJudged rule c (suc n) gs js)
 
 -- the judgement j of the line l is the one that governs these
 pub record ByOwnLines (rule : List ℕ → Answer) (l : List ℕ) (j : Judgement) : Type 0 where

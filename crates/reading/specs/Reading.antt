@@ -1,31 +1,23 @@
 -- How the program reads a line. Nobody has to believe this: `form_right` (proofs/Inverse.antt) says what `form_of` gives.
-use Rattle.std.specs.Prelude.{ℕ, List}
+use Rattle.std.specs.Prelude.{ℕ, List, Option, Some, None}
 use Rattle.text.specs.Bytes.{ascii}
-use Rattle.word.specs.declared.Numeral.{Numeral}
-use Rattle.word.specs.declared.Numeral.TheVariants.{Value, Missing}
 use Rattle.format.specs.Readers.{Reader, number, sequence, changed, one_of, one_to, before, closed, optional, whole}
 use Rattle.record.specs.declared.Wall.{Wall}
 use Rattle.record.specs.declared.Ring.{Ring}
 use Rattle.record.specs.declared.Ring.TheVariants.{Stress, Wind}
 use Rattle.record.specs.declared.Group.{Group}
-use Rattle.record.specs.declared.Inner.{Inner}
 use Rattle.cases.specs.Cases.{LoadCases}
-
--- what a line is: one that spells load cases, or the line's refusal
-pub data Form : Type 0 where
-  Read : LoadCases → Form
-  Refused : ℕ → Form
 
 -- ---- load cases of their parts in the order of a line
 
 -- a number that may be missing, and then is 0
-abbrev pub or_zero : Numeral → ℕ
-or_zero (Value n) = n
-or_zero Missing = 0
+abbrev pub or_zero : Option ℕ → ℕ
+or_zero (Some n) = n
+or_zero None = 0
 
 -- what a line shows of a wall: seven numbers, and d or nothing
 abbrev pub Shown : Type 0
-Shown = ℕ × (ℕ × (ℕ × (ℕ × (ℕ × (ℕ × (ℕ × Numeral))))))
+Shown = ℕ × (ℕ × (ℕ × (ℕ × (ℕ × (ℕ × (ℕ × Option ℕ))))))
 
 abbrev pub wall_in : Shown → Wall
 wall_in p =
@@ -46,7 +38,7 @@ wind_in p = Wind p.0 p.1
 abbrev pub group_in : ℕ × (Ring × ℕ) → Group
 group_in p = record { axial = p.0; ring = p.1.0; shear = p.1.1 }
 
-abbrev pub cases_in : Shown × (List Group × Inner) → LoadCases
+abbrev pub cases_in : Shown × (List Group × Option ℕ) → LoadCases
 cases_in p = record { wall = wall_in p.0; groups = p.1.0; inner = p.1.1 }
 
 -- ---- the readers
@@ -56,8 +48,8 @@ abbrev pub spaced : Reader ℕ
 spaced = before (ascii " ") number
 
 -- d after a space, or no bytes
-unfoldable pub shortfall : Reader Numeral
-shortfall = optional Value Missing spaced
+unfoldable pub shortfall : Reader (Option ℕ)
+shortfall = optional Some None spaced
 
 unfoldable pub shown : Reader Shown
 shown = sequence number (sequence spaced (sequence spaced (sequence spaced (sequence spaced (sequence spaced (sequence spaced shortfall))))))
@@ -83,11 +75,12 @@ unfoldable pub pressure : Reader ℕ
 pressure = closed (before (ascii " (inner ") number) (ascii ")")
 
 -- (inner p) after a space, or no bytes
-unfoldable pub inner : Reader Inner
-inner = optional Inner.Given Inner.Missing pressure
+unfoldable pub inner : Reader (Option ℕ)
+inner = optional Some None pressure
 
-unfoldable pub line : Reader (Shown × (List Group × Inner))
+unfoldable pub line : Reader (Shown × (List Group × Option ℕ))
 line = sequence (before (ascii "(shell ") shown) (closed (sequence groups inner) (ascii ")"))
 
-unfoldable pub form_of : List ℕ → Form
-form_of l = whole (λ p. Read (cases_in p)) (Refused 5) (line l)
+-- the load cases that a line spells, or none
+unfoldable pub form_of : List ℕ → Option LoadCases
+form_of l = whole (λ p. Some (cases_in p)) None (line l)

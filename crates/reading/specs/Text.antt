@@ -1,12 +1,11 @@
 -- SCOPE 7.4 to 7.6, 20.1, 20.2, 22.1, 25.1 and 26.1: the lines that spell the load cases of a shell.
-use Rattle.std.specs.Prelude.{ℕ, ◌≤◌, ◌<◌, ◌≡◌, ◌⊎◌, List, [], ◌++◌, length}
+use Rattle.std.specs.Prelude.{ℕ, ◌≤◌, ◌<◌, ◌≡◌, ◌⊎◌, List, [], ◌++◌, length, Option, Some, None}
 use Rattle.text.specs.Bytes.{ascii, decimal}
 use Rattle.format.specs.Texts.{Each, each}
 use Rattle.record.specs.declared.Wall.{Wall}
 use Rattle.record.specs.declared.Ring.{Ring}
 use Rattle.record.specs.declared.Ring.TheVariants.{Stress, Wind}
 use Rattle.record.specs.declared.Group.{Group}
-use Rattle.record.specs.declared.Inner.{Inner}
 use Rattle.cases.specs.Cases.{LoadCases}
 
 -- r t l E fy edges a: one space between items, numbers in decimal without leading zeros
@@ -34,16 +33,16 @@ abbrev pub group_text : Group → List ℕ
 group_text g = ascii "(stress " ++ decimal g.axial ++ ascii " " ++ ring_text g.ring ++ ascii " " ++ decimal g.shear ++ ascii ")"
 
 -- nothing, or (inner p) after a space
-abbrev pub inner_text : Inner → List ℕ
-inner_text Inner.Missing = []
-inner_text (Inner.Given p) = ascii " (inner " ++ decimal p ++ ascii ")"
+abbrev pub inner_text : Option ℕ → List ℕ
+inner_text None = []
+inner_text (Some p) = ascii " (inner " ++ decimal p ++ ascii ")"
 
 -- GROUPS: each after a space
 abbrev pub groups_text : List Group → List ℕ
 groups_text gs = each (λ g. ascii " " ++ group_text g) gs
 
 -- (shell NUMBERS GROUPS), and INNER before the last bracket, with its own space
-abbrev pub shell_text : List ℕ → List Group → Inner → List ℕ
+abbrev pub shell_text : List ℕ → List Group → Option ℕ → List ℕ
 shell_text numbers gs i = ascii "(shell " ++ numbers ++ groups_text gs ++ inner_text i ++ ascii ")"
 
 -- (shell r t l E fy edges a d GROUPS), with INNER
@@ -77,9 +76,9 @@ SmallRing (Wind w v) = SmallNumber w × SmallNumber v
 abbrev pub SmallGroup : Group → Type 0
 SmallGroup g = SmallNumber g.axial × SmallRing g.ring × SmallNumber g.shear
 
-abbrev pub SmallInner : Inner → Type 0
-SmallInner Inner.Missing = Unit {0}
-SmallInner (Inner.Given p) = SmallNumber p
+abbrev pub SmallInner : Option ℕ → Type 0
+SmallInner None = Unit {0}
+SmallInner (Some p) = SmallNumber p
 
 -- one to eight groups
 abbrev pub SmallGroups : List Group → Type 0

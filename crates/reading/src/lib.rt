@@ -1,105 +1,43 @@
-// One line of a sheet: the load cases that it spells, composed of its parts.
+// One line of a sheet: the load cases that it spells, composed of its parts. Each part is read at the start of what is left of the line.
 #![tactic(auto)]
 
-ghost use Rattle.std.specs.Prelude.{◌≡◌, ◌≤◌, length};
-ghost use Rattle.format.specs.Readers.{changed};
-ghost use Rattle.format.specs.Places.{Answers, number_part};
-ghost use Rattle.reading.specs.Reading.{or_zero, wall_in, wind_in, spaced, shortfall, shown, wind, ring, group, groups, pressure, inner, form_of};
-ghost use Rattle.cases.specs.Answering.{Counted};
-ghost use Rattle.reading.specs.Parts.{wall_part, ring_part, group_part, groups_part, inner_part, form_in};
+ghost use Rattle.std.specs.Prelude.{◌≡◌, ◌≤◌, ◌<◌, length, Option, Some, IfSome};
+ghost use Rattle.std.specs.Option.{option_map};
+ghost use Rattle.format.specs.Readers.{found, several, changed};
+ghost use Rattle.format.specs.Seen.{seen};
+ghost use Rattle.reading.specs.Reading.{or_zero, wall_in, wind_in, spaced, shortfall, shown, wind, ring, group, pressure, inner, form_of};
+ghost use Rattle.cases.specs.Answering.{load_cases, Counted};
 
-use cases::Cases;
-use format::{FixedAt, NumberAt, fixed_at, number_after, number_at};
-use record::{Group, Inner, Ring, Wall};
-
-// What a line is: one that spells load cases, where the refusal is 0, or the line's refusal. An enum holds no array.
-#[derive(Clone, Copy)]
-pub struct Reading {
-    pub refusal: u64,
-    pub cases: Cases,
-}
-
-// A part of a line and the place after it, or the line's refusal.
-#[derive(Clone, Copy)]
-enum WallAt {
-    Read(Wall, usize),
-    Refused(u64),
-}
-
-#[derive(Clone, Copy)]
-enum RingAt {
-    Read(Ring, usize),
-    Refused(u64),
-}
-
-#[derive(Clone, Copy)]
-enum GroupAt {
-    Read(Group, usize),
-    Refused(u64),
-}
-
-// The groups are the first `count`, and a count of 0 is the line's refusal.
-#[derive(Clone, Copy)]
-struct GroupsAt {
-    groups: [Group; 8],
-    count: usize,
-    next: usize,
-}
-
-#[derive(Clone, Copy)]
-enum InnerAt {
-    Read(Inner, usize),
-    Refused(u64),
-}
+use cases::{Cases, Groups};
+use format::{read_fixed, read_number, read_number_after};
+use record::{Group, Ring, Wall};
 
 // A number after a space.
-fn spaced_at(line: &[u8], at: usize) -> NumberAt
-    ensures { Answers spaced line.now at (number_part result) }
+fn read_spaced(rest: &[u8]) -> Option<(u64, &[u8])>
+    ensures { seen result ≡ spaced rest.now }
 {
-    number_after(line, at, b" ")
+    read_number_after(rest, b" ")
 }
 
 // d after a space, or no bytes for a d of 0.
-fn shortfall_at(line: &[u8], at: usize) -> NumberAt
-    ensures { Answers (changed or_zero shortfall) line.now at (number_part result) }
+fn read_shortfall(rest: &[u8]) -> (u64, &[u8])
+    ensures { found result.0 result.1.now ≡ changed or_zero shortfall rest.now }
 {
-    if line.len() < at {
-        return NumberAt::Refused(5);
-    }
-    let NumberAt::Read(shortfall, next) = spaced_at(line, at) else {
-        return NumberAt::Read(0, at);
-    };
-    NumberAt::Read(shortfall, next)
+    read_spaced(rest).unwrap_or((0, rest))
 }
 
 // r t l E fy edges a, and d where it is there
-fn wall_at(line: &[u8], at: usize) -> WallAt
-    ensures { Answers (changed wall_in shown) line.now at (wall_part result) }
+fn read_wall(rest: &[u8]) -> Option<(Wall, &[u8])>
+    ensures { seen result ≡ changed wall_in shown rest.now }
 {
-    let NumberAt::Read(radius, at) = number_at(line, at) else {
-        return WallAt::Refused(5);
-    };
-    let NumberAt::Read(thickness, at) = spaced_at(line, at) else {
-        return WallAt::Refused(5);
-    };
-    let NumberAt::Read(length, at) = spaced_at(line, at) else {
-        return WallAt::Refused(5);
-    };
-    let NumberAt::Read(modulus, at) = spaced_at(line, at) else {
-        return WallAt::Refused(5);
-    };
-    let NumberAt::Read(yield_stress, at) = spaced_at(line, at) else {
-        return WallAt::Refused(5);
-    };
-    let NumberAt::Read(edges, at) = spaced_at(line, at) else {
-        return WallAt::Refused(5);
-    };
-    let NumberAt::Read(imperfection, at) = spaced_at(line, at) else {
-        return WallAt::Refused(5);
-    };
-    let NumberAt::Read(shortfall, at) = shortfall_at(line, at) else {
-        return WallAt::Refused(5);
-    };
+    let (radius, rest) = read_number(rest)?;
+    let (thickness, rest) = read_spaced(rest)?;
+    let (length, rest) = read_spaced(rest)?;
+    let (modulus, rest) = read_spaced(rest)?;
+    let (yield_stress, rest) = read_spaced(rest)?;
+    let (edges, rest) = read_spaced(rest)?;
+    let (imperfection, rest) = read_spaced(rest)?;
+    let (shortfall, rest) = read_shortfall(rest);
     let wall = Wall {
         radius,
         thickness,
@@ -110,173 +48,93 @@ fn wall_at(line: &[u8], at: usize) -> WallAt
         imperfection,
         shortfall,
     };
-    WallAt::Read(wall, at)
+    Some((wall, rest))
 }
 
 // (wind w v), after a space
-fn wind_at(line: &[u8], at: usize) -> RingAt
-    ensures { Answers (changed wind_in wind) line.now at (ring_part result) }
+fn read_wind(rest: &[u8]) -> Option<(Ring, &[u8])>
+    ensures { seen result ≡ changed wind_in wind rest.now }
 {
-    let NumberAt::Read(gust, at) = number_after(line, at, b" (wind ") else {
-        return RingAt::Refused(5);
-    };
-    let NumberAt::Read(vented, at) = spaced_at(line, at) else {
-        return RingAt::Refused(5);
-    };
-    let FixedAt::Read(at) = fixed_at(line, at, b")") else {
-        return RingAt::Refused(5);
-    };
-    RingAt::Read(Ring::Wind(gust, vented), at)
+    let (gust, rest) = read_number_after(rest, b" (wind ")?;
+    let (vented, rest) = read_spaced(rest)?;
+    let rest = read_fixed(rest, b")")?;
+    Some((Ring::Wind(gust, vented), rest))
 }
 
 // σφ or wind, after a space
-fn ring_at(line: &[u8], at: usize) -> RingAt
-    ensures { Answers ring line.now at (ring_part result) }
+fn read_ring(rest: &[u8]) -> Option<(Ring, &[u8])>
+    ensures { seen result ≡ ring rest.now }
 {
-    let NumberAt::Read(stress, next) = spaced_at(line, at) else {
-        return wind_at(line, at);
-    };
-    RingAt::Read(Ring::Stress(stress), next)
+    match read_spaced(rest) {
+        Some((stress, rest)) => Some((Ring::Stress(stress), rest)),
+        None => read_wind(rest),
+    }
 }
 
 // (stress σx σφ τ), or wind in the place of σφ, after a space
-fn group_at(line: &[u8], at: usize) -> GroupAt
-    ensures { Answers group line.now at (group_part result) }
+fn read_group(rest: &[u8]) -> Option<(Group, &[u8])>
+    ensures { seen result ≡ group rest.now }
 {
-    let NumberAt::Read(axial, at) = number_after(line, at, b" (stress ") else {
-        return GroupAt::Refused(5);
-    };
-    let RingAt::Read(ring, at) = ring_at(line, at) else {
-        return GroupAt::Refused(5);
-    };
-    let NumberAt::Read(shear, at) = spaced_at(line, at) else {
-        return GroupAt::Refused(5);
-    };
-    let FixedAt::Read(at) = fixed_at(line, at, b")") else {
-        return GroupAt::Refused(5);
-    };
-    let group = Group { axial, ring, shear };
-    GroupAt::Read(group, at)
+    let (axial, rest) = read_number_after(rest, b" (stress ")?;
+    let (ring, rest) = read_ring(rest)?;
+    let (shear, rest) = read_spaced(rest)?;
+    let rest = read_fixed(rest, b")")?;
+    Some((Group { axial, ring, shear }, rest))
 }
 
-// One to eight groups, each after a space.
-fn groups_at(line: &[u8], at: usize) -> GroupsAt
-    ensures answers { Answers groups line.now at (groups_part result) }
-    ensures count_bound { (result.count ≤ 8) × (length result.groups ≡ 8) }
+// The groups, each after a space: as many as are there, and at most eight.
+fn read_groups(rest: &[u8]) -> (Groups, &[u8])
+    ensures { found result.0 result.1.now ≡ several 8 group rest.now }
 {
-    let ring = Ring::Stress(0);
-    let none = Group {
-        axial: 0,
-        ring,
-        shear: 0,
-    };
-    let mut groups = [none; 8];
-    let mut count = 0;
-    let mut next = at;
-    while count < 8 {
-        let GroupAt::Read(group, after) = group_at(line, next) else {
-            return GroupsAt {
-                groups,
-                count,
-                next,
-            };
+    let mut groups = Groups::new();
+    let mut left = rest;
+    for _ in 0..8usize {
+        let Some((group, after)) = read_group(left) else {
+            return (groups, left);
         };
-        groups[count] = group;
-        count += 1;
-        next = after;
+        groups.push(group);
+        left = after;
     }
-    GroupsAt {
-        groups,
-        count,
-        next,
-    }
+    (groups, left)
 }
 
 // p of (inner p), after a space
-fn pressure_at(line: &[u8], at: usize) -> NumberAt
-    ensures { Answers pressure line.now at (number_part result) }
+fn read_pressure(rest: &[u8]) -> Option<(u64, &[u8])>
+    ensures { seen result ≡ pressure rest.now }
 {
-    let NumberAt::Read(p, at) = number_after(line, at, b" (inner ") else {
-        return NumberAt::Refused(5);
-    };
-    let FixedAt::Read(at) = fixed_at(line, at, b")") else {
-        return NumberAt::Refused(5);
-    };
-    NumberAt::Read(p, at)
+    let (p, rest) = read_number_after(rest, b" (inner ")?;
+    Some((p, read_fixed(rest, b")")?))
 }
 
 // (inner p) after a space, or no bytes
-fn inner_at(line: &[u8], at: usize) -> InnerAt
-    ensures { Answers inner line.now at (inner_part result) }
+fn read_inner(rest: &[u8]) -> (Option<u64>, &[u8])
+    ensures { found result.0 result.1.now ≡ inner rest.now }
 {
-    if line.len() < at {
-        return InnerAt::Refused(5);
+    match read_pressure(rest) {
+        Some((p, rest)) => (Some(p), rest),
+        None => (None, rest),
     }
-    let NumberAt::Read(p, next) = pressure_at(line, at) else {
-        return InnerAt::Read(Inner::Missing, at);
-    };
-    InnerAt::Read(Inner::Given(p), next)
 }
 
-// No load cases, and refusal 5.
-fn refused() -> Reading
-    ensures { result.refusal ≡ 5 }
+// The load cases that a line spells; None where it spells none.
+pub fn read(line: &[u8]) -> Option<Cases>
+    ensures value { option_map load_cases result ≡ form_of line.now }
+    ensures counted { IfSome result Counted }
 {
-    let wall = Wall {
-        radius: 0,
-        thickness: 0,
-        length: 0,
-        modulus: 0,
-        yield_stress: 0,
-        edges: 0,
-        imperfection: 0,
-        shortfall: 0,
-    };
-    let group = Group {
-        axial: 0,
-        ring: Ring::Stress(0),
-        shear: 0,
-    };
-    let cases = Cases {
-        wall,
-        groups: [group; 8],
-        count: 0,
-        inner: Inner::Missing,
-    };
-    Reading { refusal: 5, cases }
-}
-
-// The load cases that a line spells, or the line's refusal.
-pub fn read(line: &[u8]) -> Reading
-    ensures cases_value { form_in result.refusal result.cases ≡ form_of line.now }
-    ensures counted { result.refusal ≡ 0 → Counted result.cases }
-{
-    let FixedAt::Read(at) = fixed_at(line, 0, b"(shell ") else {
-        return refused();
-    };
-    let WallAt::Read(wall, at) = wall_at(line, at) else {
-        return refused();
-    };
-    let found = groups_at(line, at);
-    let groups = found.groups;
-    let count = found.count;
-    if count == 0 {
-        return refused();
+    let rest = read_fixed(line, b"(shell ")?;
+    let (wall, rest) = read_wall(rest)?;
+    let (groups, rest) = read_groups(rest);
+    if groups.len() == 0 {
+        return None;
     }
-    let InnerAt::Read(inner, at) = inner_at(line, found.next) else {
-        return refused();
-    };
-    let FixedAt::Read(at) = fixed_at(line, at, b")") else {
-        return refused();
-    };
-    if at != line.len() {
-        return refused();
+    let (inner, rest) = read_inner(rest);
+    let rest = read_fixed(rest, b")")?;
+    if !rest.is_empty() {
+        return None;
     }
-    let cases = Cases {
+    Some(Cases {
         wall,
         groups,
-        count,
         inner,
-    };
-    Reading { refusal: 0, cases }
+    })
 }

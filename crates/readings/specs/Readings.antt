@@ -1,11 +1,11 @@
 -- SCOPE 27.3 to 27.5: a sheet judged by both readings of the pressure's test, with a row for each line whose verdicts differ.
-use Rattle.std.specs.Prelude.{ℕ, ◌+◌, ◌≤◌, ◌≡◌, ◌⊎◌, List, [], ◌∷◌, ◌++◌, length, drop, eqb}
+use Rattle.std.specs.Prelude.{ℕ, ◌+◌, ◌≤◌, ◌≡◌, ◌⊎◌, List, [], ◌∷◌, ◌++◌, length, drop, eqb, Result, Ok, Err, Option, None, Some, IfOk}
 use Rattle.algebra.specs.Choice.{pick}
 use Rattle.text.specs.Bytes.{ascii, decimal, lines}
 use Rattle.pressure.specs.declared.Order.TheVariants.{ToleranceFirst, PressureFirst}
-use Rattle.answer.specs.declared.Answer.{Answer}
-use Rattle.answer.specs.declared.Answer.TheVariants.{Refused, Judged}
-use Rattle.answer.specs.Answers.{verdict_number}
+use Rattle.answer.specs.declared.Refusal.{Refusal}
+use Rattle.answer.specs.declared.Verdict.{Verdict}
+use Rattle.answer.specs.Answers.{verdict_number, Answer}
 use Rattle.answer.specs.Checks.{FirstBroken, AllPassed}
 use Rattle.record.specs.Limits.{pressure_of}
 use Rattle.cases.specs.Cases.{LoadCases}
@@ -13,22 +13,19 @@ use Rattle.reading.specs.Text.{Spells}
 use Rattle.reading.specs.Answers.{RightLine, Changed}
 use Rattle.listing.specs.Listing.{verdict_word, ended}
 use Rattle.outcome.specs.Sheet.{sheet_checks}
-use Rattle.readings.specs.declared.Change.{Change}
-use Rattle.readings.specs.declared.Change.TheVariants.{Alike, Apart}
-use Rattle.readings.specs.declared.Compared.{Compared}
 
 -- ---- a row
 
 -- two verdicts that differ; none, where they are the same or an answer is a refusal
-abbrev pub change_of : Answer → Answer → Change
-change_of (Judged i) (Judged j) = pick (eqb (verdict_number i.verdict) (verdict_number j.verdict)) Alike (Apart i.verdict j.verdict)
-change_of (Judged i) (Refused n) = Alike
-change_of (Refused n) b = Alike
+abbrev pub change_of : Answer → Answer → Option (Verdict × Verdict)
+change_of (Ok i) (Ok j) = pick (eqb (verdict_number i.verdict) (verdict_number j.verdict)) None (Some (i.verdict, j.verdict))
+change_of (Ok i) (Err n) = None
+change_of (Err n) b = None
 
 -- (k old new) and a newline, or nothing
-abbrev pub row : ℕ → Change → List ℕ
-row k Alike = []
-row k (Apart old new) = ended (ascii "(" ++ decimal k ++ ascii " " ++ verdict_word old ++ ascii " " ++ verdict_word new ++ ascii ")")
+abbrev pub row : ℕ → Option (Verdict × Verdict) → List ℕ
+row k None = []
+row k (Some (old, new)) = ended (ascii "(" ++ decimal k ++ ascii " " ++ verdict_word old ++ ascii " " ++ verdict_word new ++ ascii ")")
 
 -- the rows of lines by two rules, counted from k
 unfoldable pub rows : (List ℕ → Answer) → (List ℕ → Answer) → ℕ → List (List ℕ) → List ℕ
@@ -42,15 +39,15 @@ rows_of old new sheet = rows old new 1 (lines sheet)
 -- ---- a run
 
 -- turned back by the first check broken, with the buffer untouched; or compared, with the rows at the start of the buffer and the bytes past them as they were
-pub data Compares (old new : List ℕ → Answer) (sheet out : List ℕ) (r : Compared) (out' : List ℕ) : Type 0 where
-  turned : (n : ℕ) → FirstBroken (sheet_checks sheet (length out)) n → r ≡ record { refusal = n; length = 0 } → out' ≡ out → Compares old new sheet out r out'
-  compared : AllPassed (sheet_checks sheet (length out)) → r ≡ record { refusal = 0; length = length (rows_of old new sheet) } →
+pub data Compares (old new : List ℕ → Answer) (sheet out : List ℕ) (r : Result ℕ Refusal) (out' : List ℕ) : Type 0 where
+  turned : (e : Refusal) → FirstBroken (sheet_checks sheet (length out)) e → r ≡ Err e → out' ≡ out → Compares old new sheet out r out'
+  compared : AllPassed (sheet_checks sheet (length out)) → r ≡ Ok (length (rows_of old new sheet)) →
       out' ≡ rows_of old new sheet ++ drop (length (rows_of old new sheet)) out → Compares old new sheet out r out'
 
-pub record Readings (old new : List ℕ → Answer) (sheet out : List ℕ) (r : Compared) (out' : List ℕ) : Type 0 where
+pub record Readings (old new : List ℕ → Answer) (sheet out : List ℕ) (r : Result ℕ Refusal) (out' : List ℕ) : Type 0 where
   pub run : Compares old new sheet out r out'
   -- the rows have room in the buffer
-  pub fits : r.length ≤ length out'
+  pub fits : IfOk r (λ n. n ≤ length out')
   -- each answer is right by its reading
   pub old_right : (l : List ℕ) → RightLine ToleranceFirst l (old l)
   pub new_right : (l : List ℕ) → RightLine PressureFirst l (new l)

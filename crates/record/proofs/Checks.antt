@@ -7,8 +7,9 @@ use lib.Dec.{leb, lit<}
 use borrow.Author.Tests.{leb-true}
 use Rattle.algebra.proofs.Tests.{and_true, pick_either}
 use Rattle.cylinder.specs.InLimits.{InLimits}
+use Rattle.answer.specs.Answers.{refusal_number}
 use Rattle.answer.specs.Checks.{AllPassed}
-use Rattle.answer.proofs.Checks.{Every, numbers}
+use Rattle.answer.proofs.Checks.{Every, refusals}
 use Rattle.record.specs.declared.Wall.{Wall}
 use Rattle.record.specs.declared.Group.{Group}
 use Rattle.record.specs.declared.Record.{Record}
@@ -87,5 +88,5 @@ cylinder_within c (r, (e, (d, (w, (l, (t, u)))))) =
     }
 
 -- no check of a record has the number 0
-pub above_none : (c : Record) → Every (λ m. 0 < m) (numbers (checks c))
+pub above_none : (c : Record) → Every (λ r. 0 < refusal_number r) (refusals (checks c))
 above_none c = (lit< tt, (lit< tt, (lit< tt, (lit< tt, (lit< tt, (lit< tt, (lit< tt, (lit< tt, tt))))))))

@@ -1,33 +1,53 @@
 -- Laws for the code: what a record that breaks no check allows to be called, the stresses of a group as loads, and the bounds of the sum. Assumes nothing.
-use mathlib.Core.Path.{◌≡◌, sym, ap, ◌∙◌, subst}
+use mathlib.Core.Path.{◌≡◌, refl, sym, ap, ◌∙◌, subst}
 use mathlib.Core.Bool.{true}
-use Prim.Native.Nat.{ℕ, ◌*◌, ◌≤◌}
+use Prim.Native.Nat.{ℕ, ◌≤◌, ◌<◌}
 use native.Mathlib.Omega.{arith}
-use borrow.Author.Tests.{leb-true}
+use lib.Dec.{ltb}
+use borrow.Author.Tests.{leb-true, lt-ltb}
+use Rattle.cylinder.specs.declared.ByStress.{ByStress}
 use Rattle.cylinder.specs.declared.Cylinder.{Cylinder}
 use Rattle.cylinder.specs.Fraction.{whole, ◌//◌}
-use Rattle.cylinder.specs.Search.{Pair}
+use Rattle.cylinder.specs.InLimits.{InLimits}
 use Rattle.pressure.specs.declared.Order.{Order}
 use Rattle.pressure.specs.WholeGain.{tested_at, line_bounds}
-use Rattle.line_bounds.specs.Places.{Whole}
-use Rattle.cylinder.specs.InLimits.{InLimits}
-use Rattle.bounds.specs.declared.Load.{Load}
-use Rattle.bounds.specs.Stresses.{Small, fraction_of}
-use Rattle.answer.specs.Answering.{judgement_of}
+use Rattle.term.specs.declared.Load.{Load}
+use Rattle.bounds.specs.Stresses.{fraction_of}
 use Rattle.answer.specs.Checks.{AllPassed}
+use Rattle.line_bounds.specs.declared.Worked.{Worked}
+use Rattle.line_bounds.specs.Places.{Whole, WorkedFor, line_of}
+use Rattle.line_bounds.proofs.Wanted.{worked_same}
+use Rattle.record.specs.declared.Ring.{Ring}
+use Rattle.record.specs.declared.Ring.TheVariants.{Stress, Wind}
 use Rattle.record.specs.declared.Record.{Record}
-use Rattle.record.specs.Limits.{ring_in_range, wind_allowed, checks, cylinder_of}
+use Rattle.record.specs.Right.{ring_stress}
+use Rattle.record.specs.Answering.{has_ring, WorkedOn, bounds_of}
+use Rattle.record.specs.Limits.{pressure_of, ring_in_range, wind_allowed, checks, cylinder_of}
 use Rattle.record.proofs.Checks.{ranges, cylinder_within}
 
 module _ (c : Record) (all : AllPassed (checks c)) where
-  pub wall_fits : (c.wall.thickness ≤ 10000) × (c.wall.shortfall ≤ 2 * c.wall.thickness)
-  wall_fits = let t = (ranges c all.0).thickness in (t.most, omega (arith, t.least, leb-true c.wall.shortfall 50 all.1.1.0))
+  pub wall_fits : c.wall.thickness ≤ 10000
+  wall_fits = (ranges c all.0).thickness.most
 
-  pub ring_fits : (s : Cylinder) → s ≡ cylinder_of c.wall → InLimits s × (ring_in_range c.group.ring ≡ true) × (wind_allowed c.group.ring ≡ true)
-  ring_fits s e = (subst InLimits (sym e) (cylinder_within c all), (ranges c all.0).ring, all.1.1.1.1.1.1.0)
+  pub limits_fit : (s : Cylinder) → s ≡ cylinder_of c.wall → InLimits s
+  limits_fit s e = subst InLimits (sym e) (cylinder_within c all)
 
-pub load_small : {x : ℕ} (l : Load) → (l.num ≡ x) × (l.den ≡ 1) → x ≤ 700000 → Small l
-load_small l (n, d) h = (omega arith, omega arith)
+  pub ring_fits : (ring_in_range c.group.ring ≡ true) × (wind_allowed c.group.ring ≡ true)
+  ring_fits = ((ranges c all.0).ring, all.1.1.1.1.1.1.0)
+
+  pub pressure_fits : (p : ℕ) → p ≡ pressure_of c.inner → p ≤ 1000000
+  pressure_fits p e = omega (arith, leb-true (pressure_of c.inner) 1000000 all.1.1.1.1.1.1.1.0)
+
+-- a ring stress above 0 comes from one or from wind
+ring_loaded : (s : Cylinder) (r : Ring) → 0 < ring_stress s r → has_ring r ≡ true
+ring_loaded s (Stress σφ) some = lt-ltb 0 σφ some
+ring_loaded s (Wind w v) some = refl
+
+-- what was worked for the places that a record needs serves it
+pub worked_on : {A R H : Type 0} {o : Order} (c : Record) (s : Cylinder) (p : ℕ) (w : Worked) → s ≡ cylinder_of c.wall → p ≡ pressure_of c.inner →
+    (ltb 0 c.group.axial ≡ true → A) → (has_ring c.group.ring ≡ true → R) → (ltb 0 c.group.shear ≡ true → H) → WorkedFor o s p A R H w → WorkedOn o c w
+worked_on c s p w e f a r h k =
+    worked_same _ _ _ _ _ e f (λ n. a (lt-ltb 0 c.group.axial n)) (λ n. r (ring_loaded (cylinder_of c.wall) c.group.ring n)) (λ n. h (lt-ltb 0 c.group.shear n)) k
 
 -- a whole stress as a load
 load_whole : {x : ℕ} (l : Load) → (l.num ≡ x) × (l.den ≡ 1) → fraction_of l ≡ whole x
@@ -36,10 +56,11 @@ load_whole l (n, d) = λ i. n i // d i
 pub load_whole_range : {x : ℕ} (l : Load) → (l.num ≡ x) × (l.den ≡ 1) → x ≤ 700000 → Whole l
 load_whole_range l (n, d) h = (omega (arith, n, h), d)
 
-pub bounds_are : (o : Order) (s t : Cylinder) (p p' : ℕ) (X Y Z : Load) (x y z : ℕ) (low high : ℕ) → s ≡ t → p ≡ p' → (X.num ≡ x) × (X.den ≡ 1) → (Y.num ≡ y) × (Y.den ≡ 1) → (Z.num ≡ z) × (Z.den ≡ 1) →
-    low ≡ (line_bounds s p (tested_at o s) (fraction_of X) (fraction_of Y) (fraction_of Z)).low → high ≡ (line_bounds s p (tested_at o s) (fraction_of X) (fraction_of Y) (fraction_of Z)).high →
-    judgement_of low high ≡ judgement_of (line_bounds t p' (tested_at o t) (whole x) (whole y) (whole z)).low (line_bounds t p' (tested_at o t) (whole x) (whole y) (whole z)).high
-bounds_are o s t p p' X Y Z x y z low high e f ex ey ez l h = λ i. judgement_of ((l ∙ ap (λ (p : Pair). p.low) same) i) ((h ∙ ap (λ (p : Pair). p.high) same) i)
+-- the bounds of a group's loads are those of its record
+pub bounds_are : (o : Order) (c : Record) (s : Cylinder) (p : ℕ) (l : ByStress Load) (y : ℕ) → s ≡ cylinder_of c.wall → p ≡ pressure_of c.inner → y ≡ ring_stress s c.group.ring →
+    (l.axial.num ≡ c.group.axial) × (l.axial.den ≡ 1) → (l.ring.num ≡ y) × (l.ring.den ≡ 1) → (l.shear.num ≡ c.group.shear) × (l.shear.den ≡ 1) → line_of o s p l ≡ bounds_of o c
+unfolding bounds_of
+bounds_are o c s p l y e f r ax ri sh = λ i. line_bounds (e i) (f i) (tested_at o (e i)) (load_whole l.axial ax i) (load_whole l.ring ring i) (load_whole l.shear sh i)
   where
-    same : line_bounds s p (tested_at o s) (fraction_of X) (fraction_of Y) (fraction_of Z) ≡ line_bounds t p' (tested_at o t) (whole x) (whole y) (whole z)
-    same = λ i. line_bounds (e i) (f i) (tested_at o (e i)) (load_whole X ex i) (load_whole Y ey i) (load_whole Z ez i)
+    ring : (l.ring.num ≡ ring_stress (cylinder_of c.wall) c.group.ring) × (l.ring.den ≡ 1)
+    ring = (ri.0 ∙ r ∙ ap (λ (t : Cylinder). ring_stress t c.group.ring) e, ri.1)

@@ -14,13 +14,14 @@ use Rattle.algebra.proofs.Tests.{clash}
 use Rattle.cylinder.specs.declared.Cylinder.{Cylinder}
 use Rattle.cylinder.specs.Fraction.{Fraction, whole}
 use Rattle.cylinder.specs.Search.{Pair, sum_bounds}
+use Rattle.std.specs.Prelude.{None, Some, Ok, Err}
+use Rattle.answer.specs.declared.Refusal.{Refusal}
+use Rattle.answer.specs.Answers.{Answer, refusal_number}
 use Rattle.answer.specs.declared.Judgement.{Judgement}
-use Rattle.answer.specs.declared.Answer.{Answer}
-use Rattle.answer.specs.declared.Answer.TheVariants.{Refused, Judged}
 use Rattle.answer.specs.Checks.{Check, check, FirstBroken, AllPassed}
 use Rattle.answer.specs.Answering.{first_or, judgement_of}
 use Rattle.answer.specs.Right.{AsCase, refused, judged}
-use Rattle.answer.proofs.Checks.{among_every, all_passed}
+use Rattle.answer.proofs.Checks.{refusals, among_every, all_passed}
 use Rattle.answer.proofs.Right
 use Rattle.pressure.specs.WholeGain.{tested_at, line_bounds}
 use Rattle.line_bounds.specs.declared.Gain.{Gain}
@@ -28,7 +29,6 @@ use Rattle.line_bounds.specs.declared.Gain.TheVariants.{Idle}
 use Rattle.line_bounds.specs.Means.{GainMeans}
 use Rattle.line_bounds.specs.Places.{gain_of}
 use Rattle.line_bounds.proofs.Means.{gain_means}
-use Rattle.record.specs.declared.Inner.TheVariants.{Missing, Given}
 use Rattle.record.specs.declared.Record.{Record}
 use Rattle.record.specs.Limits.{pressure_of, pressure_allowed, checks, cylinder_of, with_inner}
 use Rattle.record.specs.Right.{ring_stress, RecordOver, Bounds, BoundsOf, Right}
@@ -39,13 +39,13 @@ use Rattle.record.proofs.Right.{close_plain}
 
 -- ---- a check at the end that is passed may be left out
 module _ (k : Check) (passed : k.passed ≡ true) where
-  broken_less : (ks : List Check) (n : ℕ) → FirstBroken (ks ++ (k ∷ [])) n → FirstBroken ks n
+  broken_less : (ks : List Check) (n : Refusal) → FirstBroken (ks ++ (k ∷ [])) n → FirstBroken ks n
   broken_less [] n (inl (f, _)) = clash passed f
   broken_less [] n (inr (_, none)) = none
   broken_less (h ∷ ks) n (inl e) = inl e
   broken_less (h ∷ ks) n (inr (t, f)) = inr (t, broken_less ks n f)
 
-  broken_more : (ks : List Check) (n : ℕ) → FirstBroken ks n → FirstBroken (ks ++ (k ∷ [])) n
+  broken_more : (ks : List Check) (n : Refusal) → FirstBroken ks n → FirstBroken (ks ++ (k ∷ [])) n
   broken_more [] n x' = elim x' [ ]
   broken_more (h ∷ ks) n (inl e) = inl e
   broken_more (h ∷ ks) n (inr (t, f)) = inr (t, broken_more ks n f)
@@ -58,7 +58,7 @@ module _ (k : Check) (passed : k.passed ≡ true) where
   passed_more [] all = (passed, tt)
   passed_more (h ∷ ks) (t, all) = (t, passed_more ks all)
 
-  first_less : {A : Type 0} (f : ℕ → A) (a : A) (ks : List Check) → first_or f a (ks ++ (k ∷ [])) ≡ first_or f a ks
+  first_less : {A : Type 0} (f : Refusal → A) (a : A) (ks : List Check) → first_or f a (ks ++ (k ∷ [])) ≡ first_or f a ks
   first_less f a [] = ap (λ b. pick b a (f k.refusal)) passed
   first_less f a (h ∷ ks) = ap (λ x. pick h.passed x (f h.refusal)) (first_less f a ks)
 
@@ -82,7 +82,7 @@ module _ (o : Order) (c : Record) (none : pressure_of c.inner ≡ 0) where
   allowed = ap (λ (p : ℕ). leb p 1000000) none
 
   abbrev last : Check
-  last = check 16 (pressure_allowed c.inner)
+  last = check Refusal.Pressure (pressure_allowed c.inner)
 
   to_bounds : (j : Judgement) → Bounds o c j → BoundsOf (UnpressedOver c) j
   to_bounds j b =
@@ -124,9 +124,9 @@ module _ (o : Order) (c : Record) (none : pressure_of c.inner ≡ 0) where
       from _ (judged j all (b, k) v) = judged j (passed_more last allowed (unpressed_checks c) all) (from_bounds j b, k) v
 
   -- so no refusal is over 13
-  pub plain_range : (n : ℕ) → Right o c (Refused n) → n ≤ 13
-  plain_range n r =
-      among_every (λ m. m ≤ 13) (6 ∷ 7 ∷ 11 ∷ 8 ∷ 9 ∷ 10 ∷ 13 ∷ []) n (Right.refused_among (unpressed_checks c) (AsCase 1 (BoundsOf (UnpressedOver c))) n ((plain_right (Refused n)).0 r))
+  pub plain_range : (r : Refusal) → Right o c (Err r) → refusal_number r ≤ 13
+  plain_range r right =
+      among_every (λ m. refusal_number m ≤ 13) (refusals (unpressed_checks c)) r (Right.refused_among (unpressed_checks c) (AsCase 1 (BoundsOf (UnpressedOver c))) r ((plain_right (Err r)).0 right))
       (lit≤ tt, (lit≤ tt, (lit≤ tt, (lit≤ tt, (lit≤ tt, (lit≤ tt, (lit≤ tt, tt)))))))
 
   -- L and U are the same
@@ -138,14 +138,14 @@ module _ (o : Order) (c : Record) (none : pressure_of c.inner ≡ 0) where
   pub plain_answer : record_answer o c ≡ unpressed_answer c
   unfolding record_answer unpressed_answer
   plain_answer =
-      first_less last allowed Refused (Judged (judgement_of (bounds_of o c).low (bounds_of o c).high)) (unpressed_checks c)
-      ∙ ap (λ (b : Pair). first_or Refused (Judged (judgement_of b.low b.high)) (unpressed_checks c)) plain_bounds
+      first_less last allowed Err (Ok (judgement_of (bounds_of o c).low (bounds_of o c).high)) (unpressed_checks c)
+      ∙ ap (λ (b : Pair). first_or Err (Ok (judgement_of b.low b.high)) (unpressed_checks c)) plain_bounds
 
 -- a missing group, and one with a pressure of 0
-pub nought_right : (o : Order) (c : Record) (a : Answer) → Right o (with_inner Missing c) a ↔ Right o (with_inner (Given 0) c) a
+pub nought_right : (o : Order) (c : Record) (a : Answer) → Right o (with_inner None c) a ↔ Right o (with_inner (Some 0) c) a
 nought_right o c a = (λ r. r, λ r. r)
 
-pub nought_answer : (o : Order) (c : Record) → record_answer o (with_inner Missing c) ≡ record_answer o (with_inner (Given 0) c)
+pub nought_answer : (o : Order) (c : Record) → record_answer o (with_inner None c) ≡ record_answer o (with_inner (Some 0) c)
 unfolding record_answer bounds_of
 nought_answer o c = refl
 

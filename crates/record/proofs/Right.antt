@@ -16,15 +16,16 @@ use Rattle.cylinder.specs.Exact.{AtMost, AtLeast, Encloses, Close}
 use Rattle.pressure.specs.GainTest.{test_ratio, Doubt}
 use Rattle.pressure.proofs.Lines.{line_down, line_bounds_within}
 use Rattle.cylinder.proofs.Verdict
+use Rattle.std.specs.Prelude.{Ok, Err}
+use Rattle.answer.specs.declared.Refusal.{Refusal}
+use Rattle.answer.specs.Answers.{Answer, refusal_number}
 use Rattle.answer.specs.declared.Verdict.{Verdict}
 use Rattle.answer.specs.declared.Verdict.TheVariants.{Holds, Fails, Open}
 use Rattle.answer.specs.declared.Judgement.{Judgement}
-use Rattle.answer.specs.declared.Answer.{Answer}
-use Rattle.answer.specs.declared.Answer.TheVariants.{Refused, Judged}
 use Rattle.answer.specs.Answering.{Bounded}
 use Rattle.answer.specs.Checks.{Check, AllPassed}
 use Rattle.answer.specs.Right.{RightBy, AsCase, refused, judged}
-use Rattle.answer.proofs.Checks.{Among, among_every, broken_passed}
+use Rattle.answer.proofs.Checks.{refusals, Among, among_every, broken_passed}
 use Rattle.answer.proofs.Right
 use Rattle.answer.proofs.Verdicts.{verdict_holds, verdict_fails, verdict_open, holds_verdict, fails_verdict}
 use Rattle.record.specs.declared.Record.{Record}
@@ -50,11 +51,12 @@ record_right o c = Right.answer_by_right (checks c) (AsCase 1 (Bounds o c)) (jud
 
 module _ (o : Order) (c : Record) where
   -- SCOPE 11.6, 20.7, 22.7 and 25.1: no other refusal than 6 to 11, 13 and 16
-  pub meets : (n : ℕ) → Right o c (Refused n) → Among n (6 ∷ 7 ∷ 11 ∷ 8 ∷ 9 ∷ 10 ∷ 13 ∷ 16 ∷ [])
-  meets n r = Right.refused_among (checks c) (AsCase 1 (Bounds o c)) n r
+  pub meets : (r : Refusal) → Right o c (Err r) → Among r
+      (Refusal.Range ∷ Refusal.Edges ∷ Refusal.Shortfall ∷ Refusal.WallRatio ∷ Refusal.LengthRatio ∷ Refusal.Imperfection ∷ Refusal.Wind ∷ Refusal.Pressure ∷ [])
+  meets r right = Right.refused_among (checks c) (AsCase 1 (Bounds o c)) r right
 
-  pub refusal_range : (n : ℕ) → Right o c (Refused n) → (6 ≤ n) × (n ≤ 16)
-  refusal_range n r = among_every (λ m. (6 ≤ m) × (m ≤ 16)) (6 ∷ 7 ∷ 11 ∷ 8 ∷ 9 ∷ 10 ∷ 13 ∷ 16 ∷ []) n (meets n r)
+  pub refusal_range : (r : Refusal) → Right o c (Err r) → (6 ≤ refusal_number r) × (refusal_number r ≤ 16)
+  refusal_range r right = among_every (λ m. (6 ≤ refusal_number m) × (refusal_number m ≤ 16)) (refusals (checks c)) r (meets r right)
       ((lit≤ tt, lit≤ tt), ((lit≤ tt, lit≤ tt), ((lit≤ tt, lit≤ tt), ((lit≤ tt, lit≤ tt), ((lit≤ tt, lit≤ tt), ((lit≤ tt, lit≤ tt), ((lit≤ tt, lit≤ tt), ((lit≤ tt, lit≤ tt), tt))))))))
 
   -- L, U and the case fit the number of an answer
@@ -65,20 +67,20 @@ module _ (o : Order) (c : Record) where
 
 module _ (ks : List Check) (Exceeds : ℕ → ℕ → Type 0) (down : Verdict.Downward Exceeds) (j : Judgement) (Claim : Judgement → Type 0)
     (around : Claim j → Encloses Exceeds j.low j.high) where
-  pub sum_holds : RightBy ks Claim (Judged j) → j.verdict ≡ Holds → AtMost Exceeds 1 1
+  pub sum_holds : RightBy ks Claim (Ok j) → j.verdict ≡ Holds → AtMost Exceeds 1 1
   sum_holds (judged _ all b v) h = Verdict.holds_only (around b) down (verdict_holds j.low j.high (sym v ∙ h))
 
-  pub sum_fails : RightBy ks Claim (Judged j) → j.verdict ≡ Fails → Exceeds 1 1
+  pub sum_fails : RightBy ks Claim (Ok j) → j.verdict ≡ Fails → Exceeds 1 1
   sum_fails (judged _ all b v) h = Verdict.fails_only (around b) (verdict_fails j.low j.high (sym v ∙ h))
 
 -- and, if they are close, of one that is open
 module _ (ks : List Check) (Exceeds : ℕ → ℕ → Type 0) (down : Verdict.Downward Exceeds) (j : Judgement) where
-  pub sum_band : RightBy ks (BoundsOf Exceeds) (Judged j) → j.verdict ≡ Open → AtLeast Exceeds 99 100 × AtMost Exceeds 101 100
+  pub sum_band : RightBy ks (BoundsOf Exceeds) (Ok j) → j.verdict ≡ Open → AtLeast Exceeds 99 100 × AtMost Exceeds 101 100
   sum_band (judged _ all b v) h =
       let (over, under) = verdict_open j.low j.high (sym v ∙ h) in
       Verdict.open_band b.encloses down (omega (arith, b.close)) over under
 
-  pub sum_means : RightBy ks (BoundsOf Exceeds) (Judged j) → Means Exceeds j.verdict
+  pub sum_means : RightBy ks (BoundsOf Exceeds) (Ok j) → Means Exceeds j.verdict
   sum_means r = go j.verdict refl
     where
       go : (v : Verdict) → j.verdict ≡ v → Means Exceeds v
@@ -89,15 +91,15 @@ module _ (ks : List Check) (Exceeds : ℕ → ℕ → Type 0) (down : Verdict.Do
 -- of that of a record
 module _ (o : Order) (c : Record) (j : Judgement) where
   -- holds only if the exact sum is at most 1
-  pub holds_at_most : Right o c (Judged j) → j.verdict ≡ Holds → AtMost (RecordOver o c) 1 1
+  pub holds_at_most : Right o c (Ok j) → j.verdict ≡ Holds → AtMost (RecordOver o c) 1 1
   holds_at_most = sum_holds (checks c) (RecordOver o c) (record_down o c) j (AsCase 1 (Bounds o c)) (λ b. b.0.encloses)
 
   -- fails only if it is over 1
-  pub fails_over : Right o c (Judged j) → j.verdict ≡ Fails → RecordOver o c 1 1
+  pub fails_over : Right o c (Ok j) → j.verdict ≡ Fails → RecordOver o c 1 1
   fails_over = sum_fails (checks c) (RecordOver o c) (record_down o c) j (AsCase 1 (Bounds o c)) (λ b. b.0.encloses)
 
   -- open only if it lies from 0.9999 to 1.0002, or the test of the gain is in doubt
-  pub open_near : Right o c (Judged j) → j.verdict ≡ Open → (AtLeast (RecordOver o c) 9999 10000 × AtMost (RecordOver o c) 10002 10000) ⊎ InDoubt o c
+  pub open_near : Right o c (Ok j) → j.verdict ≡ Open → (AtLeast (RecordOver o c) 9999 10000 × AtMost (RecordOver o c) 10002 10000) ⊎ InDoubt o c
   open_near (judged _ all (b, _) v) h =
       let (over, under) = verdict_open j.low j.high (sym v ∙ h) in
       elim (dec_le j.high (j.low + 2)) [
@@ -106,13 +108,13 @@ module _ (o : Order) (c : Record) (j : Judgement) where
       ]
 
   -- and so from 0.99 to 1.01, the band of SCOPE 9.13, but for that doubt
-  pub open_band : Right o c (Judged j) → j.verdict ≡ Open → (AtLeast (RecordOver o c) 99 100 × AtMost (RecordOver o c) 101 100) ⊎ InDoubt o c
+  pub open_band : Right o c (Ok j) → j.verdict ≡ Open → (AtLeast (RecordOver o c) 99 100 × AtMost (RecordOver o c) 101 100) ⊎ InDoubt o c
   open_band r h =
       ⊎_elim
       (λ near. inl (Verdict.at_least_down (RecordOver o c) 9999 10000 99 100 (lit< tt) (lit≤ tt) near.0, Verdict.at_most_up (RecordOver o c) (record_down o c) 10002 10000 101 100 (lit< tt) (lit< tt) (lit≤ tt) near.1))
       (λ doubt. inr doubt) (open_near r h)
 
-  pub verdict_means : Right o c (Judged j) → MeansFor o c j.verdict
+  pub verdict_means : Right o c (Ok j) → MeansFor o c j.verdict
   verdict_means r = go j.verdict refl
     where
       go : (v : Verdict) → j.verdict ≡ v → MeansFor o c v
@@ -121,7 +123,7 @@ module _ (o : Order) (c : Record) (j : Judgement) where
       go Open e = open_band r e
 
 -- L and U of a right answer that are not close: the two sides of the test of the gain differ by less than 1/1000
-pub apart_doubt : (o : Order) (c : Record) (j : Judgement) → Right o c (Judged j) → j.low + 2 < j.high → Doubt (cylinder_of c.wall) (pressure_of c.inner) (test_ratio o (cylinder_of c.wall))
+pub apart_doubt : (o : Order) (c : Record) (j : Judgement) → Right o c (Ok j) → j.low + 2 < j.high → Doubt (cylinder_of c.wall) (pressure_of c.inner) (test_ratio o (cylinder_of c.wall))
 apart_doubt o c j (judged _ all (b, _) v) far = ⊎_elim (λ close. absurd (omega (arith, close, far))) (λ doubt. doubt) b.close
 
 -- without pressure there is no doubt, so L and U are close
@@ -142,19 +144,19 @@ module _ (o : Order) (c : Record) (i j : Judgement) (I : Bounds o c i) (J : Boun
 
 -- without pressure: where the program's U is at most 9,998, every right answer holds; where its L is at least 10,003, every one fails
 module _ (o : Order) (c : Record) (none : pressure_of c.inner ≡ 0) (all : AllPassed (checks c)) (a : Answer) (r : Right o c a) where
-  pub only_holds : (bounds_of o c).high ≤ 9998 → (j : Judgement) × ((a ≡ Judged j) × (j.verdict ≡ Holds))
+  pub only_holds : (bounds_of o c).high ≤ 9998 → (j : Judgement) × ((a ≡ Ok j) × (j.verdict ≡ Holds))
   only_holds h = go a r
     where
-      go : (x : Answer) → Right o c x → (j : Judgement) × ((x ≡ Judged j) × (j.verdict ≡ Holds))
+      go : (x : Answer) → Right o c x → (j : Judgement) × ((x ≡ Ok j) × (j.verdict ≡ Holds))
       go _ (refused n f) = absurd (broken_passed (checks c) n f all)
       go _ (judged j p (b, _) v) =
           let lap = overlap o c j (judgement_of_record o c) b (bounds_right o c all) in
           (j, (refl, v ∙ holds_verdict j.low j.high (omega (arith, close_plain o c j none b, lap))))
 
-  pub only_fails : 10003 ≤ (bounds_of o c).low → (j : Judgement) × ((a ≡ Judged j) × (j.verdict ≡ Fails))
+  pub only_fails : 10003 ≤ (bounds_of o c).low → (j : Judgement) × ((a ≡ Ok j) × (j.verdict ≡ Fails))
   only_fails h = go a r
     where
-      go : (x : Answer) → Right o c x → (j : Judgement) × ((x ≡ Judged j) × (j.verdict ≡ Fails))
+      go : (x : Answer) → Right o c x → (j : Judgement) × ((x ≡ Ok j) × (j.verdict ≡ Fails))
       go _ (refused n f) = absurd (broken_passed (checks c) n f all)
       go _ (judged j p (b, _) v) =
           let lap = overlap o c (judgement_of_record o c) j (bounds_right o c all) b in

@@ -11,9 +11,10 @@ use borrow.Author.Tests.{le-leb, lt-leb, leb-true, leb-false, le-ltb}
 use Rattle.pressure.specs.declared.Order.{Order}
 use Rattle.algebra.proofs.Tests.{clash, pick_either}
 use Rattle.cylinder.specs.declared.Cylinder.{Cylinder}
+use Rattle.std.specs.Prelude.{Ok, Err}
+use Rattle.answer.specs.declared.Refusal.{Refusal}
+use Rattle.answer.specs.Answers.{Answer}
 use Rattle.answer.specs.declared.Judgement.{Judgement}
-use Rattle.answer.specs.declared.Answer.{Answer}
-use Rattle.answer.specs.declared.Answer.TheVariants.{Refused, Judged}
 use Rattle.answer.specs.Checks.{Check, check, FirstBroken}
 use Rattle.answer.specs.Right.{AsCase, refused, judged}
 use Rattle.answer.specs.Answering.{first_or, judgement_of}
@@ -49,21 +50,21 @@ module _ (o : Order) (c : Record) (small : c.wall.shortfall ≤ 50) (e : effecti
 
   -- the checks behind 8
   abbrev behind : List Check
-  behind = check 9 (length_ratio c.wall) ∷ check 10 (tolerated c.wall) ∷ check 13 (wind_allowed c.group.ring) ∷ check 16 (pressure_allowed c.inner) ∷ []
+  behind = check Refusal.LengthRatio (length_ratio c.wall) ∷ check Refusal.Imperfection (tolerated c.wall) ∷ check Refusal.Wind (wind_allowed c.group.ring) ∷ check Refusal.Pressure (pressure_allowed c.inner) ∷ []
 
-  abbrev From8 : Bool → ℕ → Type 0
-  From8 b n = FirstBroken (check 8 b ∷ behind) n
+  abbrev From8 : Bool → Refusal → Type 0
+  From8 b n = FirstBroken (check Refusal.WallRatio b ∷ behind) n
 
   abbrev Claim : Cylinder → Judgement → Type 0
   Claim s = AsCase 1 (GroupBounds o s (pressure_of c.inner) c.group)
 
-  fewer : (n : ℕ) → FirstBroken (checks c) n → FirstBroken (nominal_checks c) n
+  fewer : (n : Refusal) → FirstBroken (checks c) n → FirstBroken (nominal_checks c) n
   fewer n (inl x) = inl x
   fewer n (inr (p, inl x)) = inr (p, inl x)
   fewer n (inr (p, inr (q, inl (f, is)))) = absurd (clash passed f)
   fewer n (inr (p, inr (q, inr (d, more)))) = inr (p, inr (q, subst (λ (b : Bool). From8 b n) same_ratio more))
 
-  further : (n : ℕ) → FirstBroken (nominal_checks c) n → FirstBroken (checks c) n
+  further : (n : Refusal) → FirstBroken (nominal_checks c) n → FirstBroken (checks c) n
   further n (inl x) = inl x
   further n (inr (p, inl x)) = inr (p, inl x)
   further n (inr (p, inr (q, more))) = inr (p, inr (q, inr (passed, subst (λ (b : Bool). From8 b n) (sym same_ratio) more)))
@@ -89,8 +90,8 @@ module _ (o : Order) (c : Record) (small : c.wall.shortfall ≤ 50) (e : effecti
       by : Cylinder → Bool → Bool → Answer
       by s allowed ratio =
           let b = group_bounds o s (pressure_of c.inner) c.group in
-          first_or Refused (Judged (judgement_of b.low b.high))
-          (check 6 (in_range c) ∷ check 7 (edges_known c.wall) ∷ check 11 allowed ∷ check 8 ratio ∷ behind)
+          first_or Err (Ok (judgement_of b.low b.high))
+          (check Refusal.Range (in_range c) ∷ check Refusal.Edges (edges_known c.wall) ∷ check Refusal.Shortfall allowed ∷ check Refusal.WallRatio ratio ∷ behind)
 
 -- ---- a record with a d of 0
 

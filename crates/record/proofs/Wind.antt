@@ -13,15 +13,15 @@ use Rattle.algebra.proofs.Tests.{and_true, clash}
 use Rattle.cylinder.specs.declared.Cylinder.{Cylinder}
 use Rattle.wind.specs.Wind.{wind_stress, WindStress}
 use Rattle.wind.proofs.Stress.{wind_most, wind_stress_lem, wind_found}
-use Rattle.answer.specs.declared.Answer.{Answer}
-use Rattle.answer.specs.declared.Answer.TheVariants.{Refused, Judged}
+use Rattle.std.specs.Prelude.{None, Ok, Err}
+use Rattle.answer.specs.declared.Refusal.{Refusal}
+use Rattle.answer.specs.Answers.{Answer, refusal_number}
 use Rattle.answer.specs.Checks.{Check, check, FirstBroken, AllPassed}
-use Rattle.answer.specs.Right.{AsCase, RightBy, refused, judged}
+use Rattle.answer.specs.Right.{AsCase, RightBy, refused}
 use Rattle.answer.specs.Answering.{first_or}
 use Rattle.answer.proofs.Checks.{all_passed}
 use Rattle.record.specs.declared.Ring.{Ring}
 use Rattle.record.specs.declared.Ring.TheVariants.{Stress, Wind}
-use Rattle.record.specs.declared.Inner.TheVariants.{Missing}
 use Rattle.record.specs.declared.Record.{Record}
 use Rattle.record.specs.Limits.{dimensions, material, ring_in_range, edges_known, shortfall_allowed, wall_ratio, length_ratio, tolerated, wind_allowed, pressure_allowed, checks, record_of, cylinder_of}
 use Rattle.record.specs.Right.{ring_stress, as_stress, Bounds, Right}
@@ -62,23 +62,19 @@ pub thin_665 : ring_stress (cylinder_of (thin 0).wall) (Wind 1000 0) ≡ 665
 thin_665 = wind_found (cylinder_of (thin 0).wall) (cylinder_within (thin 0) (refl, (refl, (refl, (refl, (refl, (refl, (refl, (refl, tt))))))))) 1000 0 664 (lit≤ tt) (lit≤ tt) refl refl
 
 -- SCOPE 22.10: a record with a plain stress and without pressure is refused by 6 to 11 only
-plain_broken : (c : Record) (σφ n : ℕ) → c.group.ring ≡ Stress σφ → c.inner ≡ Missing → FirstBroken (checks c) n → (6 ≤ n) × (n ≤ 11)
-plain_broken c σφ n plain none (inl (f, is)) = (omega (arith, is), omega (arith, is))
-plain_broken c σφ n plain none (inr (_, inl (f, is))) = (omega (arith, is), omega (arith, is))
-plain_broken c σφ n plain none (inr (_, inr (_, inl (f, is)))) = (omega (arith, is), omega (arith, is))
-plain_broken c σφ n plain none (inr (_, inr (_, inr (_, inl (f, is))))) = (omega (arith, is), omega (arith, is))
-plain_broken c σφ n plain none (inr (_, inr (_, inr (_, inr (_, inl (f, is)))))) = (omega (arith, is), omega (arith, is))
-plain_broken c σφ n plain none (inr (_, inr (_, inr (_, inr (_, inr (_, inl (f, is))))))) = (omega (arith, is), omega (arith, is))
-plain_broken c σφ n plain none (inr (_, inr (_, inr (_, inr (_, inr (_, inr (_, inl (f, is)))))))) = absurd (clash (ap wind_allowed plain) f)
-plain_broken c σφ n plain none (inr (_, inr (_, inr (_, inr (_, inr (_, inr (_, inr (_, inl (f, is))))))))) = absurd (clash (ap pressure_allowed none) f)
-plain_broken c σφ n plain none (inr (_, inr (_, inr (_, inr (_, inr (_, inr (_, inr (_, inr (_, rest))))))))) = absurd rest
+plain_broken : (c : Record) (σφ : ℕ) (r : Refusal) → c.group.ring ≡ Stress σφ → c.inner ≡ None → FirstBroken (checks c) r → (6 ≤ refusal_number r) × (refusal_number r ≤ 11)
+plain_broken c σφ r plain none (inl (f, is)) = rw (← is) (lit≤ tt, lit≤ tt)
+plain_broken c σφ r plain none (inr (_, inl (f, is))) = rw (← is) (lit≤ tt, lit≤ tt)
+plain_broken c σφ r plain none (inr (_, inr (_, inl (f, is)))) = rw (← is) (lit≤ tt, lit≤ tt)
+plain_broken c σφ r plain none (inr (_, inr (_, inr (_, inl (f, is))))) = rw (← is) (lit≤ tt, lit≤ tt)
+plain_broken c σφ r plain none (inr (_, inr (_, inr (_, inr (_, inl (f, is)))))) = rw (← is) (lit≤ tt, lit≤ tt)
+plain_broken c σφ r plain none (inr (_, inr (_, inr (_, inr (_, inr (_, inl (f, is))))))) = rw (← is) (lit≤ tt, lit≤ tt)
+plain_broken c σφ r plain none (inr (_, inr (_, inr (_, inr (_, inr (_, inr (_, inl (f, is)))))))) = absurd (clash (ap wind_allowed plain) f)
+plain_broken c σφ r plain none (inr (_, inr (_, inr (_, inr (_, inr (_, inr (_, inr (_, inl (f, is))))))))) = absurd (clash (ap pressure_allowed none) f)
+plain_broken c σφ r plain none (inr (_, inr (_, inr (_, inr (_, inr (_, inr (_, inr (_, inr (_, rest))))))))) = absurd rest
 
-pub plain_refusal : (o : Order) (c : Record) (σφ n : ℕ) → c.group.ring ≡ Stress σφ → c.inner ≡ Missing → Right o c (Refused n) → (6 ≤ n) × (n ≤ 11)
-plain_refusal o c σφ n plain none r = go (Refused n) r refl
-  where
-    go : (a : Answer) → Right o c a → a ≡ Refused n → (6 ≤ n) × (n ≤ 11)
-    go _ (refused m f) e = let same : m ≡ n = cc in plain_broken c σφ n plain none (subst (FirstBroken (checks c)) same f)
-    go _ (judged j all b v) e = absurd (let z : ◌≡◌ {A = ℕ} 0 1 = cc in omega arith)
+pub plain_refusal : (o : Order) (c : Record) (σφ : ℕ) (r : Refusal) → c.group.ring ≡ Stress σφ → c.inner ≡ None → Right o c (Err r) → (6 ≤ refusal_number r) × (refusal_number r ≤ 11)
+plain_refusal o c σφ r plain none (refused _ f) = plain_broken c σφ r plain none f
 
 -- the answers to a record that passes check 13 are those to the record with the plain stress
 same_range : (s : Cylinder) (ring : Ring) → ring_in_range ring ≡ ring_in_range (Stress (ring_stress s ring))
@@ -91,14 +87,14 @@ module _ (o : Order) (c : Record) (allowed : wind_allowed c.group.ring ≡ true)
     where
       by : Bool → Bool → List Check
       by ring wind =
-          check 6 (dimensions c.wall && (material c.wall && (leb c.group.axial 700000 && (ring && leb c.group.shear 700000))))
-          ∷ check 7 (edges_known c.wall)
-          ∷ check 11 (shortfall_allowed c.wall)
-          ∷ check 8 (wall_ratio c.wall)
-          ∷ check 9 (length_ratio c.wall)
-          ∷ check 10 (tolerated c.wall)
-          ∷ check 13 wind
-          ∷ check 16 (pressure_allowed c.inner)
+          check Refusal.Range (dimensions c.wall && (material c.wall && (leb c.group.axial 700000 && (ring && leb c.group.shear 700000))))
+          ∷ check Refusal.Edges (edges_known c.wall)
+          ∷ check Refusal.Shortfall (shortfall_allowed c.wall)
+          ∷ check Refusal.WallRatio (wall_ratio c.wall)
+          ∷ check Refusal.LengthRatio (length_ratio c.wall)
+          ∷ check Refusal.Imperfection (tolerated c.wall)
+          ∷ check Refusal.Wind wind
+          ∷ check Refusal.Pressure (pressure_allowed c.inner)
           ∷ []
 
   pub wind_right : (a : Answer) → Right o c a ↔ Right o (as_stress c) a
@@ -106,4 +102,4 @@ module _ (o : Order) (c : Record) (allowed : wind_allowed c.group.ring ≡ true)
 
   pub wind_answer : record_answer o c ≡ record_answer o (as_stress c)
   unfolding record_answer bounds_of
-  wind_answer = ap (first_or Refused (Judged (judgement_of_record o c))) same_checks
+  wind_answer = ap (first_or Err (Ok (judgement_of_record o c))) same_checks

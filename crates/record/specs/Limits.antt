@@ -1,13 +1,12 @@
 -- SCOPE 2, 10.6 to 10.11, 10.13, 10.16, 20, 22 and 25: the limits of a record, and its checks in their order.
-use Rattle.std.specs.Prelude.{ℕ, ◌*◌, ◌-◌, Bool, true, ◌&&◌, ◌||◌, List, [], ◌∷◌, leb, ltb, eqb}
+use Rattle.std.specs.Prelude.{ℕ, ◌*◌, ◌-◌, Bool, true, ◌&&◌, ◌||◌, List, [], ◌∷◌, Option, None, Some, leb, ltb, eqb}
 use Rattle.algebra.specs.Choice.{pick}
+use Rattle.answer.specs.declared.Refusal.{Refusal}
 use Rattle.answer.specs.Checks.{Check, check}
 use Rattle.record.specs.declared.Wall.{Wall}
 use Rattle.record.specs.declared.Ring.{Ring}
 use Rattle.record.specs.declared.Ring.TheVariants.{Stress, Wind}
 use Rattle.record.specs.declared.Group.{Group}
-use Rattle.record.specs.declared.Inner.{Inner}
-use Rattle.record.specs.declared.Inner.TheVariants.{Missing, Given}
 use Rattle.record.specs.declared.Record.{Record}
 use Rattle.cylinder.specs.declared.Cylinder.{Cylinder}
 
@@ -82,26 +81,30 @@ wind_allowed (Stress σφ) = true
 wind_allowed (Wind w v) = leb w 10000 && leb v 1
 
 -- ---- the pressure inside the shell: a missing group is a pressure of 0
-abbrev pub pressure_of : Inner → ℕ
-pressure_of Missing = 0
-pressure_of (Given p) = p
+abbrev pub pressure_of : Option ℕ → ℕ
+pressure_of None = 0
+pressure_of (Some p) = p
 
 -- ---- check 16: p over 1,000,000
-abbrev pub pressure_allowed : Inner → Bool
+abbrev pub pressure_allowed : Option ℕ → Bool
 pressure_allowed i = leb (pressure_of i) 1000000
 
 -- ---- the checks of a record, in their order
 abbrev pub checks : Record → List Check
 checks c =
-    check 6 (in_range c)
-    ∷ check 7 (edges_known c.wall)
-    ∷ check 11 (shortfall_allowed c.wall)
-    ∷ check 8 (wall_ratio c.wall)
-    ∷ check 9 (length_ratio c.wall)
-    ∷ check 10 (tolerated c.wall)
-    ∷ check 13 (wind_allowed c.group.ring)
-    ∷ check 16 (pressure_allowed c.inner)
+    check Refusal.Range (in_range c)
+    ∷ check Refusal.Edges (edges_known c.wall)
+    ∷ check Refusal.Shortfall (shortfall_allowed c.wall)
+    ∷ check Refusal.WallRatio (wall_ratio c.wall)
+    ∷ check Refusal.LengthRatio (length_ratio c.wall)
+    ∷ check Refusal.Imperfection (tolerated c.wall)
+    ∷ check Refusal.Wind (wind_allowed c.group.ring)
+    ∷ check Refusal.Pressure (pressure_allowed c.inner)
     ∷ []
+
+-- ---- a shell and a stress group, without internal pressure
+abbrev pub unpressed : Wall → Group → Record
+unpressed w g = record { wall = w; group = g; inner = None }
 
 -- ---- the parts of a record in the order of the calls from C, without internal pressure
 abbrev pub record_of : ℕ → ℕ → ℕ → ℕ → ℕ → ℕ → ℕ → ℕ → Ring → ℕ → ℕ → Record
@@ -119,7 +122,7 @@ record_of r t l E fy edges a σx ring τ d =
             shortfall = d;
           };
       group = record { axial = σx; ring = ring; shear = τ };
-      inner = Missing;
+      inner = None;
     }
 
 -- ---- the cylinder of a wall, with a thickness in 200ths of a mm; for a wall that is the effective one
@@ -158,5 +161,5 @@ with_shortfall d c =
     }
 
 -- ---- a record with another pressure inside
-abbrev pub with_inner : Inner → Record → Record
+abbrev pub with_inner : Option ℕ → Record → Record
 with_inner i c = record { wall = c.wall; group = c.group; inner = i }

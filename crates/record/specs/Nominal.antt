@@ -1,11 +1,11 @@
 -- What is laid down of a record if SCOPE 20 is left out, so that it has no shortfall: all checks but 11, and the nominal wall in check 8 and in every formula.
 -- The laws of proofs/Shortfall.antt compare with it.
-use Rattle.std.specs.Prelude.{◌*◌, Bool, List, [], ◌∷◌}
+use Rattle.std.specs.Prelude.{◌*◌, Bool, List, [], ◌∷◌, Ok, Err}
 use Rattle.pressure.specs.declared.Order.{Order}
 use Rattle.cylinder.specs.declared.Cylinder.{Cylinder}
 use Rattle.cylinder.specs.Search.{Pair}
-use Rattle.answer.specs.declared.Answer.{Answer}
-use Rattle.answer.specs.declared.Answer.TheVariants.{Refused, Judged}
+use Rattle.answer.specs.declared.Refusal.{Refusal}
+use Rattle.answer.specs.Answers.{Answer}
 use Rattle.answer.specs.Checks.{Check, check}
 use Rattle.answer.specs.Right.{RightBy, AsCase}
 use Rattle.answer.specs.Answering.{first_or, judgement_of}
@@ -21,13 +21,13 @@ nominal_ratio w = from_to (20 * w.thickness) (2500 * w.thickness) (100 * w.radiu
 
 abbrev pub nominal_checks : Record → List Check
 nominal_checks c =
-    check 6 (in_range c)
-    ∷ check 7 (edges_known c.wall)
-    ∷ check 8 (nominal_ratio c.wall)
-    ∷ check 9 (length_ratio c.wall)
-    ∷ check 10 (tolerated c.wall)
-    ∷ check 13 (wind_allowed c.group.ring)
-    ∷ check 16 (pressure_allowed c.inner)
+    check Refusal.Range (in_range c)
+    ∷ check Refusal.Edges (edges_known c.wall)
+    ∷ check Refusal.WallRatio (nominal_ratio c.wall)
+    ∷ check Refusal.LengthRatio (length_ratio c.wall)
+    ∷ check Refusal.Imperfection (tolerated c.wall)
+    ∷ check Refusal.Wind (wind_allowed c.group.ring)
+    ∷ check Refusal.Pressure (pressure_allowed c.inner)
     ∷ []
 
 -- the wall is t, in 200ths of a mm
@@ -43,4 +43,4 @@ nominal_bounds o c = group_bounds o (nominal_cylinder c.wall) (pressure_of c.inn
 
 unfoldable pub nominal_answer : Order → Record → Answer
 unfolding nominal_bounds
-nominal_answer o c = first_or Refused (Judged (judgement_of (nominal_bounds o c).low (nominal_bounds o c).high)) (nominal_checks c)
+nominal_answer o c = first_or Err (Ok (judgement_of (nominal_bounds o c).low (nominal_bounds o c).high)) (nominal_checks c)

@@ -8,10 +8,10 @@ use Rattle.pressure.specs.declared.Order.{Order}
 use Rattle.pressure.specs.GainTest.{test_ratio, Doubt}
 use Rattle.pressure.specs.GainSum.{OverGain, LineOver, BoundsUnder}
 use Rattle.wind.specs.Wind.{wind_stress}
+use Rattle.answer.specs.Answers.{Answer}
 use Rattle.answer.specs.declared.Verdict.{Verdict}
 use Rattle.answer.specs.declared.Verdict.TheVariants.{Holds, Fails, Open}
 use Rattle.answer.specs.declared.Judgement.{Judgement}
-use Rattle.answer.specs.declared.Answer.{Answer}
 use Rattle.answer.specs.Right.{RightBy, AsCase}
 use Rattle.record.specs.declared.Ring.{Ring}
 use Rattle.record.specs.declared.Ring.TheVariants.{Stress, Wind}

@@ -1,11 +1,10 @@
 -- The rows marked P in SCOPE 15, together: for each, what the exact sum is, and that every right answer has the verdict.
-use Rattle.std.specs.Prelude.{ℕ, ◌≡◌}
+use Rattle.std.specs.Prelude.{ℕ, ◌≡◌, Ok}
 use Rattle.pressure.specs.declared.Order.TheVariants.{PressureFirst}
+use Rattle.answer.specs.Answers.{Answer}
 use Rattle.answer.specs.declared.Verdict.{Verdict}
 use Rattle.answer.specs.declared.Verdict.TheVariants.{Holds, Fails}
 use Rattle.answer.specs.declared.Judgement.{Judgement}
-use Rattle.answer.specs.declared.Answer.{Answer}
-use Rattle.answer.specs.declared.Answer.TheVariants.{Judged}
 use Rattle.record.specs.declared.Ring.TheVariants.{Stress}
 use Rattle.record.specs.declared.Record.{Record}
 use Rattle.record.specs.Limits.{record_of}
@@ -21,7 +20,7 @@ B2000 σx σφ τ = record_of 5000 500 10000 210000 240 12 2000 σx (Stress σφ
 
 pub record Row (c : Record) (v : Verdict) : Type 0 where
   pub meant : MeansFor PressureFirst c v
-  pub answered : (a : Answer) → Right PressureFirst c a → (j : Judgement) × ((a ≡ Judged j) × (j.verdict ≡ v))
+  pub answered : (a : Answer) → Right PressureFirst c a → (j : Judgement) × ((a ≡ Ok j) × (j.verdict ≡ v))
 
 pub record TrialRows : Type 0 where
   pub axial_holds : Row (B 20700 0 0) Holds

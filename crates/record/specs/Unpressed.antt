@@ -1,11 +1,11 @@
 -- What is laid down of a record if SCOPE 25 is left out, so that it has no internal pressure: all checks but 16, and the sum without a gain.
 -- The laws of proofs/Pressure.antt compare with it.
-use Rattle.std.specs.Prelude.{ℕ, List, [], ◌∷◌}
+use Rattle.std.specs.Prelude.{ℕ, List, [], ◌∷◌, Ok, Err}
 use Rattle.cylinder.specs.Fraction.{whole}
 use Rattle.cylinder.specs.Sum.{Over}
 use Rattle.cylinder.specs.Search.{Pair, sum_bounds}
-use Rattle.answer.specs.declared.Answer.{Answer}
-use Rattle.answer.specs.declared.Answer.TheVariants.{Refused, Judged}
+use Rattle.answer.specs.declared.Refusal.{Refusal}
+use Rattle.answer.specs.Answers.{Answer}
 use Rattle.answer.specs.Checks.{Check, check}
 use Rattle.answer.specs.Right.{RightBy, AsCase}
 use Rattle.answer.specs.Answering.{first_or, judgement_of}
@@ -15,13 +15,13 @@ use Rattle.record.specs.Right.{ring_stress, BoundsOf}
 
 abbrev pub unpressed_checks : Record → List Check
 unpressed_checks c =
-    check 6 (in_range c)
-    ∷ check 7 (edges_known c.wall)
-    ∷ check 11 (shortfall_allowed c.wall)
-    ∷ check 8 (wall_ratio c.wall)
-    ∷ check 9 (length_ratio c.wall)
-    ∷ check 10 (tolerated c.wall)
-    ∷ check 13 (wind_allowed c.group.ring)
+    check Refusal.Range (in_range c)
+    ∷ check Refusal.Edges (edges_known c.wall)
+    ∷ check Refusal.Shortfall (shortfall_allowed c.wall)
+    ∷ check Refusal.WallRatio (wall_ratio c.wall)
+    ∷ check Refusal.LengthRatio (length_ratio c.wall)
+    ∷ check Refusal.Imperfection (tolerated c.wall)
+    ∷ check Refusal.Wind (wind_allowed c.group.ring)
     ∷ []
 
 -- the exact sum is over x/y
@@ -41,4 +41,4 @@ unpressed_bounds c =
 
 unfoldable pub unpressed_answer : Record → Answer
 unfolding unpressed_bounds
-unpressed_answer c = first_or Refused (Judged (judgement_of (unpressed_bounds c).low (unpressed_bounds c).high)) (unpressed_checks c)
+unpressed_answer c = first_or Err (Ok (judgement_of (unpressed_bounds c).low (unpressed_bounds c).high)) (unpressed_checks c)

@@ -4,17 +4,16 @@
 ghost use Rattle.std.specs.Prelude.{◌≡◌, true, ◌*◌, ◌≤◌};
 ghost use Rattle.answer.specs.Checks.{AllPassed};
 ghost use Rattle.answer.specs.Answering.{refusal_by};
-ghost use Rattle.cylinder.specs.InLimits.{InLimits};
 ghost use Rattle.line_bounds.specs.Means.{GainMeans};
-ghost use Rattle.record.specs.Limits.{from_to, in_range, dimensions, material, ring_in_range, stresses, edges_known, effective_wall, wall_ratio, length_ratio, tolerated, wind_allowed, pressure_of, checks, cylinder_of, record_of, with_inner};
+ghost use Rattle.record.specs.Limits.{from_to, in_range, dimensions, material, ring_in_range, stresses, edges_known, effective_wall, wall_ratio, length_ratio, wind_allowed, pressure_of, checks, cylinder_of, unpressed, with_inner};
 ghost use Rattle.record.specs.Right.{ring_stress, Right};
-ghost use Rattle.guess.specs.Roots.{RootTable};
 ghost use Rattle.pressure.specs.declared.Order.TheVariants.{PressureFirst};
-ghost use Rattle.record.specs.Answering.{WorkedOn, judgement_of_record, record_answer, ring_stress_of, gain_of_record};
+ghost use Rattle.record.specs.Answering.{has_ring, wanted_of, WorkedOn, judgement_of_record, record_answer, ring_stress_of, gain_of_record};
 
-use answer::{Answer, Judgement};
+use answer::{Answer, Judgement, Refusal};
 use bounds::Load;
-use cylinder::Cylinder;
+use cylinder::{ByStress, Cylinder, ValidCylinder};
+use guess::Roots;
 use line_bounds::{Gain, Worked};
 use pressure::Order;
 
@@ -31,7 +30,7 @@ pub struct Wall {
     pub modulus: u64,
     // fy, yield stress, N/mm²
     pub yield_stress: u64,
-    // a digit for each edge
+    // a digit for each edge, as a line or a call from C writes it; check 7 says which are known
     pub edges: u64,
     // a, worst ratio of found to permitted imperfection, thousandths
     pub imperfection: u64,
@@ -44,7 +43,7 @@ pub struct Wall {
 pub enum Ring {
     // σφ
     Stress(u64),
-    // w, gust pressure at the stagnation point, N/m²; v, 0 for a closed shell, 1 for an open or vented one
+    // w, gust pressure at the stagnation point, N/m²; v, 0 for a closed shell, 1 for an open or vented one, and any number until check 13 is made
     Wind(u64, u64),
 }
 
@@ -59,32 +58,25 @@ pub struct Group {
     pub shear: u64,
 }
 
-// The pressure inside the shell.
-#[derive(Clone, Copy)]
-pub enum Inner {
-    // no group for it in the line
-    Missing,
-    // p, N/m²
-    Given(u64),
-}
-
 // A shell with its load.
 #[derive(Clone, Copy)]
 pub struct Record {
     pub wall: Wall,
     pub group: Group,
-    pub inner: Inner,
+    // p, the pressure inside the shell, N/m²; the group for it may be missing
+    pub inner: Option<u64>,
 }
 
 // Whether x lies from low to high.
 fn in_range(x: u64, low: u64, high: u64) -> bool
     ensures { result ≡ from_to low high x }
 {
-    if low <= x { x <= high } else { false }
+    (low..=high).contains(&x)
 }
 
 // A whole stress.
 fn load(stress: u64) -> Load
+    requires { stress ≤ 700000 }
     ensures { (result.num ≡ stress) × (result.den ≡ 1) }
 {
     Load {
@@ -98,54 +90,42 @@ impl Wall {
     fn has_dimensions(self) -> bool
         ensures { result ≡ dimensions self }
     {
-        if in_range(self.radius, Record::RADIUS_LEAST, Record::RADIUS_MOST) {
-            if in_range(
+        in_range(self.radius, Record::RADIUS_LEAST, Record::RADIUS_MOST)
+            && in_range(
                 self.thickness,
                 Record::THICKNESS_LEAST,
                 Record::THICKNESS_MOST,
-            ) {
-                in_range(self.length, Record::LENGTH_LEAST, Record::LENGTH_MOST)
-            } else {
-                false
-            }
-        } else {
-            false
-        }
+            )
+            && in_range(self.length, Record::LENGTH_LEAST, Record::LENGTH_MOST)
     }
 
     // Whether modulus and yield stress lie in their ranges.
     fn has_material(self) -> bool
         ensures { result ≡ material self }
     {
-        if in_range(self.modulus, Record::MODULUS_LEAST, Record::MODULUS_MOST) {
-            in_range(self.yield_stress, Record::YIELD_LEAST, Record::YIELD_MOST)
-        } else {
-            false
-        }
+        in_range(self.modulus, Record::MODULUS_LEAST, Record::MODULUS_MOST)
+            && in_range(self.yield_stress, Record::YIELD_LEAST, Record::YIELD_MOST)
     }
 
     // Whether the wall passes check 7.
     fn has_known_edges(self) -> bool
         ensures { result ≡ edges_known self }
     {
-        if self.edges == Record::EDGES_HELD {
-            return true;
-        }
-        if self.edges == Record::EDGES_MIXED {
-            return true;
-        }
-        self.edges == Record::EDGES_FREE
+        matches!(
+            self.edges,
+            Record::EDGES_HELD | Record::EDGES_MIXED | Record::EDGES_FREE
+        )
     }
 
     // The effective wall in 200ths of a mm.
     fn effective_wall(self) -> u64
-        requires { (self.thickness ≤ 10000) × (self.shortfall ≤ 2 * self.thickness) }
+        requires { self.thickness ≤ 10000 }
         ensures value { result ≡ effective_wall self }
         ensures upper_bound { result ≤ 20000 }
     {
         let nominal = 2 * self.thickness;
         if self.thickness < Record::THICKNESS_AS_NOMINAL {
-            nominal - self.shortfall
+            nominal.saturating_sub(self.shortfall)
         } else {
             nominal
         }
@@ -153,7 +133,7 @@ impl Wall {
 
     // Whether the wall passes check 8.
     fn has_wall_ratio(self) -> bool
-        requires { (self.radius ≤ 50000) × (self.thickness ≤ 10000) × (self.shortfall ≤ 2 * self.thickness) }
+        requires { (self.radius ≤ 50000) × (self.thickness ≤ 10000) }
         ensures { result ≡ wall_ratio self }
     {
         let wall = self.effective_wall();
@@ -169,22 +149,18 @@ impl Wall {
         requires { (self.radius ≤ 50000) × (self.length ≤ 200000) }
         ensures { result ≡ length_ratio self }
     {
-        if self.radius <= Record::LENGTHS_MOST * self.length {
-            self.length <= Record::RADII_MOST * self.radius
-        } else {
-            false
-        }
+        self.radius <= Record::LENGTHS_MOST * self.length
+            && self.length <= Record::RADII_MOST * self.radius
     }
 
     // The cylinder of a wall.
     pub fn cylinder(self) -> Cylinder
-        requires { (self.thickness ≤ 10000) × (self.shortfall ≤ 2 * self.thickness) }
+        requires { self.thickness ≤ 10000 }
         ensures { result ≡ cylinder_of self }
     {
-        let wall = self.effective_wall();
         Cylinder {
             radius: self.radius,
-            wall,
+            wall: self.effective_wall(),
             length: self.length,
             modulus: self.modulus,
             yield_stress: self.yield_stress,
@@ -211,55 +187,58 @@ impl Ring {
     {
         match self {
             Ring::Stress(_) => true,
-            Ring::Wind(gust, vented) => {
-                if gust <= Record::GUST_MOST {
-                    vented <= Record::VENTED
-                } else {
-                    false
-                }
-            }
+            Ring::Wind(gust, vented) => { gust <= Record::GUST_MOST && vented <= Record::VENTED }
+        }
+    }
+
+    // Whether there is a ring stress, or wind, which may make one.
+    fn is_loaded(self) -> bool
+        ensures { result ≡ has_ring self }
+    {
+        match self {
+            Ring::Stress(stress) => 0 < stress,
+            Ring::Wind(_, _) => true,
         }
     }
 
     // The ring stress on a cylinder.
-    fn stress_on(self, s: Cylinder) -> u64
-        requires { InLimits s × (ring_in_range self ≡ true) × (wind_allowed self ≡ true) }
-        ensures value { result ≡ ring_stress s self }
+    fn stress_on(self, s: ValidCylinder) -> u64
+        requires { (ring_in_range self ≡ true) × (wind_allowed self ≡ true) }
+        ensures value { result ≡ ring_stress s.cylinder self }
         ensures upper_bound { result ≤ 700000 }
     {
         match self {
             Ring::Stress(stress) => stress,
-            Ring::Wind(gust, vented) => wind::ring_stress(s, gust, vented),
-        }
-    }
-}
-
-impl Inner {
-    // p, 0 where the group is missing.
-    pub fn pressure(self) -> u64
-        ensures { result ≡ pressure_of self }
-    {
-        match self {
-            Inner::Missing => 0,
-            Inner::Given(p) => p,
+            Ring::Wind(gust, vented) => wind::ring_stress(s, gust, vented == Record::VENTED),
         }
     }
 }
 
 impl Group {
+    // No stress at all.
+    pub const NONE: Group = Group {
+        axial: 0,
+        ring: Ring::Stress(0),
+        shear: 0,
+    };
+
     // Whether each stress lies in its range.
     pub fn has_stresses(self) -> bool
         ensures { result ≡ stresses self }
     {
-        let ring = self.ring;
-        if self.axial <= Record::STRESS_MOST {
-            if ring.is_in_range() {
-                self.shear <= Record::STRESS_MOST
-            } else {
-                false
-            }
-        } else {
-            false
+        self.axial <= Record::STRESS_MOST
+            && self.ring.is_in_range()
+            && self.shear <= Record::STRESS_MOST
+    }
+
+    // Which places of S the group needs.
+    pub fn wanted(self) -> ByStress<bool>
+        ensures { result ≡ wanted_of self }
+    {
+        ByStress {
+            axial: 0 < self.axial,
+            ring: self.ring.is_loaded(),
+            shear: 0 < self.shear,
         }
     }
 }
@@ -322,99 +301,97 @@ impl Record {
     fn is_in_range(self) -> bool
         ensures { result ≡ in_range self }
     {
-        let wall = self.wall;
-        let group = self.group;
-        if wall.has_dimensions() {
-            if wall.has_material() {
-                group.has_stresses()
-            } else {
-                false
-            }
-        } else {
-            false
+        self.wall.has_dimensions() && self.wall.has_material() && self.group.has_stresses()
+    }
+
+    // The pressure inside, 0 where its group is missing.
+    pub fn pressure(self) -> u64
+        ensures { result ≡ pressure_of self.inner }
+    {
+        self.inner.unwrap_or(0)
+    }
+
+    // Ok, or the refusal of the first check that the record breaks.
+    pub fn check(self) -> Result<(), Refusal>
+        ensures { result ≡ refusal_by (checks self) }
+    {
+        if !self.is_in_range() {
+            return Err(Refusal::Range);
+        }
+        if !self.wall.has_known_edges() {
+            return Err(Refusal::Edges);
+        }
+        if Self::SHORTFALL_MOST < self.wall.shortfall {
+            return Err(Refusal::Shortfall);
+        }
+        if !self.wall.has_wall_ratio() {
+            return Err(Refusal::WallRatio);
+        }
+        if !self.wall.has_length_ratio() {
+            return Err(Refusal::LengthRatio);
+        }
+        if Self::IMPERFECTION_MOST < self.wall.imperfection {
+            return Err(Refusal::Imperfection);
+        }
+        if !self.group.ring.has_allowed_wind() {
+            return Err(Refusal::Wind);
+        }
+        if Self::PRESSURE_MOST < self.pressure() {
+            return Err(Refusal::Pressure);
+        }
+        Ok(())
+    }
+
+    // The cylinder of a record that breaks no check.
+    pub fn cylinder(self) -> ValidCylinder
+        requires { AllPassed (checks self) }
+        ensures { result.cylinder ≡ cylinder_of self.wall }
+    {
+        ValidCylinder {
+            cylinder: self.wall.cylinder(),
         }
     }
 
-    // The judgement of a record that breaks no check.
+    // The judgement of a record that breaks no check, where what depends on the wall alone has been worked before.
+    pub fn judgement_by(self, o: Order, roots: &Roots, w: Worked) -> Judgement
+        requires { AllPassed (checks self) × WorkedOn o self w }
+        ensures { result ≡ judgement_of_record o self }
+    {
+        let s = self.cylinder();
+        let group = self.group;
+        let loads = ByStress {
+            axial: load(group.axial),
+            ring: load(group.ring.stress_on(s)),
+            shear: load(group.shear),
+        };
+        let l = line_bounds::of_group(roots, o, s, self.pressure(), w, loads);
+        Judgement::by_bounds(l.low, l.high)
+    }
+
+    // The same, of a record alone.
     fn judgement(self, o: Order) -> Judgement
         requires { AllPassed (checks self) }
         ensures { result ≡ judgement_of_record o self }
     {
-        let wall = self.wall;
-        let group = self.group;
-        let s = wall.cylinder();
-        let ring = group.ring;
-        let x = load(group.axial);
-        let y = load(ring.stress_on(s));
-        let z = load(group.shear);
-        let inner = self.inner;
-        let b = line_bounds::of_line(o, s, inner.pressure(), x, y, z);
-        Judgement::by_bounds(b.low, b.high)
+        let roots = Roots::new();
+        let w = line_bounds::work(
+            &roots,
+            o,
+            self.cylinder(),
+            self.pressure(),
+            self.group.wanted(),
+        );
+        self.judgement_by(o, &roots, w)
     }
 
-    // The same, where what depends on the wall alone has been worked before.
-    pub fn judgement_by(self, o: Order, roots: &[u8; 1024], w: Worked) -> Judgement
-        requires { AllPassed (checks self) × WorkedOn o self w × RootTable roots.now }
-        ensures { result ≡ judgement_of_record o self }
-    {
-        let wall = self.wall;
-        let group = self.group;
-        let s = wall.cylinder();
-        let ring = group.ring;
-        let x = load(group.axial);
-        let y = load(ring.stress_on(s));
-        let z = load(group.shear);
-        let inner = self.inner;
-        let l = line_bounds::of_group(roots, o, s, inner.pressure(), w, x, y, z);
-        Judgement::by_bounds(l.low, l.high)
-    }
-
-    // The number of the first check that the record breaks, 0 where it breaks none.
-    pub fn refusal(self) -> u64
-        ensures { result ≡ refusal_by (checks self) }
-    {
-        let wall = self.wall;
-        let group = self.group;
-        let ring = group.ring;
-        if !self.is_in_range() {
-            return 6;
-        }
-        if !wall.has_known_edges() {
-            return 7;
-        }
-        if Self::SHORTFALL_MOST < wall.shortfall {
-            return 11;
-        }
-        if !wall.has_wall_ratio() {
-            return 8;
-        }
-        if !wall.has_length_ratio() {
-            return 9;
-        }
-        if Self::IMPERFECTION_MOST < wall.imperfection {
-            return 10;
-        }
-        if !ring.has_allowed_wind() {
-            return 13;
-        }
-        let inner = self.inner;
-        if Self::PRESSURE_MOST < inner.pressure() {
-            return 16;
-        }
-        0
-    }
-
-    // The ring stress that the record is judged with, 0 where it breaks a check.
+    // The ring stress that the record is judged with; 0, and no case apart for the callers, where it breaks a check.
     pub fn ring_stress(self) -> u64
         ensures { result ≡ ring_stress_of self }
     {
-        let wall = self.wall;
-        let group = self.group;
-        let ring = group.ring;
-        if 0 < self.refusal() {
-            return 0;
+        match self.check() {
+            Ok(()) => self.group.ring.stress_on(self.cylinder()),
+            Err(_) => 0,
         }
-        ring.stress_on(wall.cylinder())
     }
 
     // What the pressure does to a record that breaks no check, by a reading of its test; nothing, where it breaks one.
@@ -422,96 +399,44 @@ impl Record {
         ensures value { result ≡ gain_of_record o self }
         ensures gain_means { AllPassed (checks self) → GainMeans o (cylinder_of self.wall) (pressure_of self.inner) result }
     {
-        let wall = self.wall;
-        let inner = self.inner;
-        if 0 < self.refusal() {
-            return Gain::Idle;
+        match self.check() {
+            Ok(()) => { line_bounds::gain_under(o, self.cylinder(), self.pressure()) }
+            Err(_) => Gain::Idle,
         }
-        line_bounds::gain_under(o, wall.cylinder(), inner.pressure())
     }
 
-    // The answer to a record, by a reading of the pressure's test: the number of the first check that it breaks, or the judgement.
+    // The answer to a record, by a reading of the pressure's test: the refusal of the first check that it breaks, or the judgement.
     pub fn answer(self, o: Order) -> Answer
         ensures value { result ≡ record_answer o self }
         ensures right { Right o self result }
     {
-        let n = self.refusal();
-        if 0 < n {
-            return Answer::Refused(n);
-        }
-        Answer::Judged(self.judgement(o))
+        self.check()?;
+        Ok(self.judgement(o))
     }
 
-    // The record of its parts in the order of the calls from C.
-    pub fn of(
-        radius: u64,
-        thickness: u64,
-        length: u64,
-        modulus: u64,
-        yield_stress: u64,
-        edges: u64,
-        imperfection: u64,
-        axial: u64,
-        ring: Ring,
-        shear: u64,
-        shortfall: u64,
-    ) -> Record
-        ensures { result ≡ record_of radius thickness length modulus yield_stress edges imperfection axial ring shear shortfall }
+    // The record of a shell and a stress group, without pressure inside.
+    pub fn of(wall: Wall, group: Group) -> Record
+        ensures { result ≡ unpressed wall group }
     {
-        let wall = Wall {
-            radius,
-            thickness,
-            length,
-            modulus,
-            yield_stress,
-            edges,
-            imperfection,
-            shortfall,
-        };
-        let group = Group { axial, ring, shear };
-        let inner = Inner::Missing;
-        Record { wall, group, inner }
+        Record {
+            wall,
+            group,
+            inner: None,
+        }
     }
 
     // The record with another pressure inside.
-    pub fn under(self, inner: Inner) -> Record
+    pub fn under(self, inner: Option<u64>) -> Record
         ensures { result ≡ with_inner inner self }
     {
-        let wall = self.wall;
-        let group = self.group;
-        Record { wall, group, inner }
+        Record { inner, ..self }
     }
 
-    // The answer to the record of these parts.
-    pub fn judge(
-        radius: u64,
-        thickness: u64,
-        length: u64,
-        modulus: u64,
-        yield_stress: u64,
-        edges: u64,
-        imperfection: u64,
-        axial: u64,
-        ring: Ring,
-        shear: u64,
-        shortfall: u64,
-    ) -> Answer
-        ensures value { result ≡ record_answer PressureFirst (record_of radius thickness length modulus yield_stress edges imperfection axial ring shear shortfall) }
-        ensures right { Right PressureFirst (record_of radius thickness length modulus yield_stress edges imperfection axial ring shear shortfall) result }
+    // The answer to the record of a shell and a stress group.
+    pub fn judge(wall: Wall, group: Group) -> Answer
+        ensures value { result ≡ record_answer PressureFirst (unpressed wall group) }
+        ensures right { Right PressureFirst (unpressed wall group) result }
     {
-        let c = Self::of(
-            radius,
-            thickness,
-            length,
-            modulus,
-            yield_stress,
-            edges,
-            imperfection,
-            axial,
-            ring,
-            shear,
-            shortfall,
-        );
-        c.answer(Order::PressureFirst)
+        Self::of(wall, group).answer(Order::PressureFirst)
     }
 }

@@ -2,8 +2,8 @@
 use mathlib.Core.Path.{◌≡◌, refl, ap, ap₂, ◌∙◌}
 use mathlib.Core.List.{[], ◌∷◌}
 use Prim.Native.Nat.{ℕ, ◌*◌, ◌-◌, ◌^◌}
-use Rattle.wide.specs.declared.Order.{Order}
-use Rattle.wide.specs.Order.{order_of}
+use Rattle.std.specs.declared.cmp.Ordering.{Ordering}
+use Rattle.std.specs.Ordering.{nat_cmp}
 use Rattle.factors.specs.Product.{prod}
 use Rattle.algebra.proofs.Ring.{ring, quoted}
 use Rattle.cylinder.specs.declared.Cylinder.{Cylinder}
@@ -25,10 +25,10 @@ shear_e E w l p = ring (E ∷ w ∷ l ∷ p ∷ []) (search quoted depth 60 fits
 -- ---- the row
 
 -- X and Y: d q⁴ and c p⁴, D their difference, Z: e p⁴
-pub shear_short_row : (s : Cylinder) (p q : ℕ) {o : Order} {X Y D Z : ℕ} → X ≡ prod (25600000000 ∷ s.radius ∷ s.length ∷ s.length ∷ s.length ∷ s.length ∷ s.yield_stress ∷ s.yield_stress ∷ q ∷ q ∷ q ∷ q ∷ [])
+pub shear_short_row : (s : Cylinder) (p q : ℕ) {o : Ordering} {X Y D Z : ℕ} → X ≡ prod (25600000000 ∷ s.radius ∷ s.length ∷ s.length ∷ s.length ∷ s.length ∷ s.yield_stress ∷ s.yield_stress ∷ q ∷ q ∷ q ∷ q ∷ [])
     → Y ≡ prod (1134 ∷ s.modulus ∷ s.modulus ∷ s.wall ∷ s.wall ∷ s.wall ∷ s.wall ∷ s.radius ∷ p ∷ p ∷ p ∷ p ∷ []) → D ≡ X - Y
     → Z ≡ prod (1080000 ∷ s.modulus ∷ s.modulus ∷ s.wall ∷ s.wall ∷ s.length ∷ s.length ∷ s.length ∷ p ∷ p ∷ p ∷ p ∷ [])
-    → o ≡ order_of (Z ^ 2 * s.wall) (D ^ 2 * (200 * s.radius)) → Decides o (shear_short_cut s) p q
+    → o ≡ nat_cmp (Z ^ 2 * s.wall) (D ^ 2 * (200 * s.radius)) → Decides o (shear_short_cut s) p q
 shear_short_row s p q x y d z e =
     decides (shear_short_cut s) p q e (ap (λ (n : ℕ). n ^ 2 * s.wall) (z ∙ shear_e s.modulus s.wall s.length p))
     (ap (λ (n : ℕ). n ^ 2 * (200 * s.radius))

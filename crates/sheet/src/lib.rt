@@ -5,74 +5,53 @@ ghost use Rattle.std.specs.Prelude.{◌≡◌, List, ℕ, ◌≤◌, length};
 ghost use Rattle.text.specs.Slices.{put};
 ghost use Rattle.reading.specs.Answers.{RightLine};
 ghost use Rattle.reading.specs.Answering.{answer_to};
-ghost use Rattle.outcome.specs.Sheet.{turned_back, listed_by};
+ghost use Rattle.outcome.specs.Sheet.{Outcome, listed_by};
 ghost use Rattle.outcome.specs.Demand3.{Demand3};
 ghost use Rattle.outcome.specs.Running.{ruled, listing, outcome};
-ghost use Rattle.outcome.specs.declared.Outcome.{Outcome};
 
-use answer::Answer;
+use answer::{Answer, Refusal};
 use entry::put_entry;
-use lines::{after_first, first_line};
+use lines::Lines;
 use listing::Counts;
-use outcome::{Outcome, refusal};
+use outcome::{Listed, Outcome, check};
 use pressure::Order;
 use reading::read;
+use text::Page;
 use total::put_total;
 
-// A line of more bytes is refused by 4.
+// A line of more bytes is refused.
 const LINE_MOST: usize = 512;
 
-// The answer to a line, by a reading of the pressure's test: refused by 4 if it is too long, by 5 if it is not the form, else the answer to its record.
+// The answer to a line, by a reading of the pressure's test: refused if it is too long or not of the form, else the answer to its load cases.
 pub fn answer(line: &[u8], o: Order) -> Answer
     ensures right_line { RightLine o line.now result }
     ensures value { result ≡ answer_to o line.now }
 {
     if LINE_MOST < line.len() {
-        return Answer::Refused(4);
+        return Err(Refusal::LineBytes);
     }
-    let found = read(line);
-    if 0 < found.refusal {
-        return Answer::Refused(found.refusal);
-    }
-    let c = found.cases;
-    c.answer(o)
+    let Some(cases) = read(line) else {
+        return Err(Refusal::Form);
+    };
+    cases.answer(o)
 }
 
-// The outcome of a sheet that is turned back with the number n.
-fn turned_back(n: u64) -> Outcome
-    ensures { result ≡ turned_back n }
-{
-    Outcome {
-        refusal: n,
-        counts: Counts::none(),
-        length: 0,
-    }
-}
-
-// Writes the listing of a sheet to the start of `out`.
-fn put_listing(sheet: &[u8], out: &mut [u8]) -> Outcome
+// Writes the listing of a sheet to the start of `out`, and answers what is said of it.
+fn put_listing(sheet: &[u8], out: &mut [u8]) -> Listed
     requires { (length sheet.now ≤ 65535) × (length (listing sheet.now) ≤ length out.old) }
     ensures value { result ≡ listed_by ruled sheet.now }
     ensures out_after { out.new ≡ put out.old 0 (listing sheet.now) }
 {
-    let mut rest = sheet;
-    let mut at: usize = 0;
+    let mut page = Page::new(out);
     let mut counts = Counts::none();
-    while 0 < rest.len() {
-        let line = first_line(rest);
-        let e = line.len();
+    for line in Lines::of(sheet) {
         let a = answer(line, Order::PressureFirst);
         counts = counts.with(a);
-        at = put_entry(out, at, counts.lines, a);
-        let next = after_first(rest, e);
-        rest = next;
+        put_entry(&mut page, counts.lines, a);
     }
-    let length = put_total(out, at, counts);
-    Outcome {
-        refusal: 0,
-        counts,
-        length,
-    }
+    put_total(&mut page, counts);
+    let length = page.length();
+    Listed { counts, length }
 }
 
 // The whole run: writes the listing of the sheet to the start of `out`, or turns the sheet back and leaves `out` as it is.
@@ -80,10 +59,6 @@ pub fn run(sheet: &[u8], out: &mut [u8]) -> Outcome
     ensures demand3 { Demand3 ruled sheet.now out.old result out.new }
     ensures fact { ◌≡◌ {A = Outcome × List ℕ} (result, out.new) (outcome sheet.now out.old) }
 {
-    let room = out.len() as u64;
-    let n = refusal(sheet, room);
-    if 0 < n {
-        return turned_back(n);
-    }
-    put_listing(sheet, out)
+    check(sheet, out.len())?;
+    Ok(put_listing(sheet, out))
 }

@@ -10,41 +10,36 @@ mod say;
 mod scan;
 mod stream;
 
+use answer::Refusal;
 use explain::say_answers;
 use help::{say_help, say_version};
-use options::{Options, argument, argument_count, names_sheet};
-use say::{say, say_one};
+use options::{Options, Task, argument, argument_count};
 use std::io::{Error, ErrorKind, Read};
 use std::{fs, io};
-use stream::{Input, fail, read_sheet, write_error};
+use stream::{fail, read_sheet, write_error};
 
 // Writes "(batch refused N)" and a newline.
-fn say_refusal(rt: &impl Print, n: u64) -> io::Result<()> {
-    say_one(rt, b"(batch refused %)\n", n)
+fn say_refusal(rt: &impl Print, r: Refusal) -> io::Result<()> {
+    let n = u64::from(r);
+    println!(rt; "(batch refused {n})")
 }
 
 // Writes the listing of a sheet.
 fn say_listing(rt: &impl Print, sheet: &[u8]) -> io::Result<()> {
     let mut listing = [0u8; 24616];
-    let outcome = sheet::run(sheet, &mut listing);
-    let refusal = outcome.refusal;
-    let length = outcome.length;
-    if refusal == 0 {
-        return say(rt, &listing[..length]);
+    match sheet::run(sheet, &mut listing) {
+        Ok(listed) => rt.write_all(&listing[..listed.length]),
+        Err(r) => say_refusal(rt, r),
     }
-    say_refusal(rt, refusal)
 }
 
 // Writes a row for each line whose verdicts by the two readings of the pressure's test differ.
 fn say_readings(rt: &impl Print, sheet: &[u8]) -> io::Result<()> {
     let mut rows = [0u8; 24616];
-    let outcome = readings::run(sheet, &mut rows);
-    let refusal = outcome.refusal;
-    let length = outcome.length;
-    if refusal == 0 {
-        return say(rt, &rows[..length]);
+    match readings::run(sheet, &mut rows) {
+        Ok(length) => rt.write_all(&rows[..length]),
+        Err(r) => say_refusal(rt, r),
     }
-    say_refusal(rt, refusal)
 }
 
 // Writes the line that stands above a listing, if there are several.
@@ -52,21 +47,19 @@ fn say_heading(rt: &impl Print, name: &[u8], o: Options) -> io::Result<()> {
     if o.sheets < 2 {
         return Ok(());
     }
-    say(rt, b"==> ")?;
-    say(rt, name)?;
-    say(rt, b" <==\n")
+    rt.write_all(b"==> ")?;
+    rt.write_all(name)?;
+    rt.write_all(b" <==\n")
 }
 
 // Writes what there is to say of a sheet.
 fn say_sheet(rt: &impl Print, name: &[u8], sheet: &[u8], o: Options) -> io::Result<()> {
     say_heading(rt, name, o)?;
-    if o.explain {
-        return say_answers(rt, sheet);
+    match o.task {
+        Task::Explain => say_answers(rt, sheet),
+        Task::Readings => say_readings(rt, sheet),
+        _ => say_listing(rt, sheet),
     }
-    if o.readings {
-        return say_readings(rt, sheet);
-    }
-    say_listing(rt, sheet)
 }
 
 // Says on standard error why the sheet of this name cannot be read.
@@ -79,12 +72,17 @@ fn complain(rt: &HostRuntime, name: &[u8], why: Error) {
 fn list<R: Read>(rt: &HostRuntime, from: &mut R, name: &[u8], o: Options) -> io::Result<()> {
     let mut sheet = [0u8; 65536];
     match read_sheet(from, &mut sheet) {
-        Input::Bytes(n) => say_sheet(rt, name, &sheet[..n], o),
-        Input::Broken(why) => {
+        Ok(n) => say_sheet(rt, name, &sheet[..n], o),
+        Err(why) => {
             complain(rt, name, why);
             Ok(())
         }
     }
+}
+
+// Lists standard input.
+fn list_input(rt: &HostRuntime, o: Options) -> io::Result<()> {
+    list(rt, &mut rt.stdin(), b"standard input", o)
 }
 
 // Opens the sheet of this name, which std takes only where it is UTF-8.
@@ -98,7 +96,7 @@ fn open(rt: &HostRuntime, name: &[u8]) -> io::Result<fs::File> {
 // Lists the sheet of this name.
 fn list_named(rt: &HostRuntime, name: &[u8], o: Options) -> io::Result<()> {
     if name == b"-".as_slice() {
-        return list(rt, &mut rt.stdin(), b"standard input", o);
+        return list_input(rt, o);
     }
     match open(rt, name) {
         Ok(mut file) => list(rt, &mut file, name, o),
@@ -111,17 +109,19 @@ fn list_named(rt: &HostRuntime, name: &[u8], o: Options) -> io::Result<()> {
 
 // Lists the sheet that argument i names, if it names one.
 fn list_argument(rt: &HostRuntime, i: usize, o: Options) -> io::Result<()> {
-    let end = o.end;
-    let mut name = [0u8; 4096];
-    let n = argument(rt, i, &mut name);
-    if !names_sheet(i, end, &name[..n]) {
-        return Ok(());
+    let mut buf = [0u8; 4096];
+    let name = argument(rt, i, &mut buf);
+    if o.names_sheet(i, name) {
+        list_named(rt, name, o)?;
     }
-    list_named(rt, &name[..n], o)
+    Ok(())
 }
 
-// Lists the sheets that the arguments name, up to the first write that fails.
+// Lists the sheets that the arguments name, up to the first write that fails; without one standard input.
 fn list_all(rt: &HostRuntime, o: Options) -> io::Result<()> {
+    if o.sheets == 0 {
+        return list_input(rt, o);
+    }
     for i in 1..argument_count(rt) {
         list_argument(rt, i, o)?;
     }
@@ -130,24 +130,23 @@ fn list_all(rt: &HostRuntime, o: Options) -> io::Result<()> {
 
 // Does what the arguments ask for.
 fn run(rt: &HostRuntime, o: Options) -> io::Result<()> {
-    if o.unknown {
-        return Ok(());
+    match o.task {
+        Task::Help => say_help(rt),
+        Task::Version => say_version(rt),
+        _ => list_all(rt, o),
     }
-    if o.help {
-        return say_help(rt);
-    }
-    if o.version {
-        return say_version(rt);
-    }
-    if o.sheets == 0 {
-        return list(rt, &mut rt.stdin(), b"standard input", o);
-    }
-    list_all(rt, o)
 }
 
 fn main(rt: HostRuntime) {
-    let o = Options::read(&rt);
+    let Some(o) = Options::read(&rt) else {
+        return;
+    };
     if let Err(why) = run(&rt, o) {
+        let why = match why.kind() {
+            // in the words that stand for it, and not in std's for a buffer
+            ErrorKind::WriteZero => Error::from(ErrorKind::WriteZero),
+            _ => why,
+        };
         fail(&rt, b"shellsheet: standard output", why);
     }
 }

@@ -1,206 +1,186 @@
 // Where a line stops being of the form. It decides nothing: a line that it is asked about has been refused by 5.
-ghost use Rattle.std.specs.Prelude.{◌≤◌};
+use crate::say::Byte;
+use std::fmt;
 
-// The first place of a line, counted from 0, that is not of the form.
+// A number of the form.
 #[derive(Clone, Copy)]
-pub(crate) enum Stop {
-    // such a byte of the form, or number, was expected there
-    Expected(usize, u8),
-    // the form ends there
-    Behind(usize),
+pub(crate) enum Number {
+    Radius,
+    Thickness,
+    Length,
+    Modulus,
+    Yield,
+    Edges,
+    Imperfection,
+    Shortfall,
+    Axial,
+    Ring,
+    Shear,
+    Gust,
+    Vented,
+    Pressure,
 }
 
-// Whether a byte of a form stands for a number.
-pub(crate) fn is_number(want: u8) -> bool {
-    if want < 65 {
-        return false;
+// The name that the form has for it.
+impl fmt::Display for Number {
+    fn fmt<W: fmt::Write>(&self, f: &mut fmt::Formatter<W>) -> fmt::Result {
+        let name = match self {
+            Number::Radius => "r",
+            Number::Thickness => "t",
+            Number::Length => "l",
+            Number::Modulus => "E",
+            Number::Yield => "fy",
+            Number::Edges => "edges",
+            Number::Imperfection => "a",
+            Number::Shortfall => "d",
+            Number::Axial => "sx",
+            Number::Ring => "sphi",
+            Number::Shear => "tau",
+            Number::Gust => "w",
+            Number::Vented => "v",
+            Number::Pressure => "p",
+        };
+        write!(f, "{name}")
     }
-    want <= 90
 }
 
-// Whether a byte is a digit.
-pub(crate) fn is_digit(b: u8) -> bool {
-    if b < 48 {
-        return false;
-    }
-    b <= 57
+// What the form wants.
+#[derive(Clone, Copy)]
+pub(crate) enum Want {
+    Byte(u8),
+    Number(Number),
+    // digits stand there, and begin with a zero that leads
+    NoLeadingZero(Number),
+    // more digits stand there
+    SevenDigits(Number),
 }
 
-// The place after the digits that stand at `at`.
-fn digits_end(line: &[u8], at: usize) -> usize
-    ensures { at ≤ result }
-{
-    let mut i = at;
-    while i < line.len() {
-        if !is_digit(line[i]) {
-            return i;
+impl fmt::Display for Want {
+    fn fmt<W: fmt::Write>(&self, f: &mut fmt::Formatter<W>) -> fmt::Result {
+        match self {
+            Want::Byte(b) => {
+                let byte = Byte(*b);
+                write!(f, "{byte} was expected")
+            }
+            Want::Number(n) => write!(f, "a number for {n} was expected"),
+            Want::NoLeadingZero(n) => {
+                write!(f, "a number without leading zeros was expected for {n}")
+            }
+            Want::SevenDigits(n) => {
+                write!(f, "a number of at most 7 digits was expected for {n}")
+            }
         }
-        i += 1;
     }
-    i
 }
 
-// Whether the digits at `at`, so many, begin with a zero that leads.
-fn has_leading_zero(line: &[u8], at: usize, count: usize) -> bool {
-    if count < 2 {
-        return false;
-    }
-    if line.len() <= at {
-        return false;
-    }
-    line[at] == 48
+// Where a line stops being of the form: what stands from there on, and what the form wants.
+#[derive(Clone, Copy)]
+pub(crate) struct Stop<'a> {
+    pub(crate) rest: &'a [u8],
+    pub(crate) want: Want,
 }
 
-// The place after the number that stands at `at`, or `at` if none does: 1 to 7 digits without a leading zero.
-fn number_end(line: &[u8], at: usize) -> usize {
-    let end = digits_end(line, at);
-    let count = end - at;
-    if 7 < count {
-        return at;
-    }
-    if has_leading_zero(line, at, count) {
-        return at;
-    }
-    end
-}
+// What stands behind a part of the form, where that stands at the start.
+type Rest<'a> = Result<&'a [u8], Stop<'a>>;
 
-// The place after what the form wants at `at`, or `at` if it does not stand there.
-fn item_end(line: &[u8], at: usize, want: u8) -> usize {
-    if line.len() <= at {
-        return at;
-    }
-    if is_number(want) {
-        return number_end(line, at);
-    }
-    if line[at] == want {
-        return at + 1;
-    }
-    at
-}
-
-// Where `line` stops, from `from` on, being of `form`, byte by byte: a capital stands for a number, any other byte for itself.
-fn scan(line: &[u8], from: usize, form: &[u8]) -> Stop {
-    let mut at = from;
-    let mut i = 0;
-    while i < form.len() {
-        let want = form[i];
-        let next = item_end(line, at, want);
-        if next == at {
-            return Stop::Expected(at, want);
+// Behind `text`.
+fn after_text<'a>(line: &'a [u8], text: &[u8]) -> Rest<'a> {
+    let mut rest = line;
+    for b in text {
+        match rest.strip_prefix(&[*b]) {
+            Some(behind) => rest = behind,
+            None => return Err(Stop {
+                rest,
+                want: Want::Byte(*b),
+            }),
         }
-        at = next;
-        i += 1;
     }
-    Stop::Behind(at)
+    Ok(rest)
 }
 
-// The same behind what was scanned before, unless the line has stopped there.
-fn then(line: &[u8], before: Stop, form: &[u8]) -> Stop {
-    match before {
-        Stop::Expected(at, want) => Stop::Expected(at, want),
-        Stop::Behind(at) => scan(line, at, form),
-    }
-}
-
-// Whether a digit stands behind the byte at `at`.
-fn digit_behind(line: &[u8], at: usize) -> bool {
-    if line.len() <= at {
-        return false;
-    }
-    if line.len() <= at + 1 {
-        return false;
-    }
-    is_digit(line[at + 1])
-}
-
-// The shortfall, which may be left out.
-fn then_shortfall(line: &[u8], before: Stop) -> Stop {
-    let Stop::Behind(at) = before else {
-        return before;
+// Behind a number: 1 to 7 digits without a leading zero.
+fn after_number<'a>(line: &'a [u8], n: Number) -> Rest<'a> {
+    let end = line.iter().position(|b| !b.is_ascii_digit());
+    let end = end.unwrap_or(line.len());
+    let want = match &line[..end] {
+        [] => Want::Number(n),
+        [b'0', _, ..] => Want::NoLeadingZero(n),
+        digits if 7 < digits.len() => Want::SevenDigits(n),
+        _ => return Ok(&line[end..]),
     };
-    if digit_behind(line, at) {
-        return scan(line, at, b" H");
-    }
-    before
+    Err(Stop { rest: line, want })
 }
 
-// σφ, or wind in its place.
-fn then_ring(line: &[u8], before: Stop) -> Stop {
-    let Stop::Behind(at) = before else {
-        return before;
-    };
-    if item_end(line, at, b'(') == at {
-        return scan(line, at, b"J");
-    }
-    scan(line, at, b"(wind L M)")
+// Behind a space and a number.
+fn after_spaced<'a>(line: &'a [u8], n: Number) -> Rest<'a> {
+    after_number(after_text(line, b" ")?, n)
 }
 
-// A group, from its space on.
-fn scan_group(line: &[u8], at: usize) -> Stop {
-    let stop = scan(line, at, b" (stress I ");
-    let stop = then_ring(line, stop);
-    then(line, stop, b" K)")
+// Behind the shortfall, which may be left out.
+fn after_shortfall<'a>(line: &'a [u8]) -> Rest<'a> {
+    match line {
+        [_, b'0'..=b'9', ..] => after_spaced(line, Number::Shortfall),
+        _ => Ok(line),
+    }
 }
 
-// Whether a further group begins at `at`.
-fn group_behind(line: &[u8], at: usize) -> bool {
-    if line.len() <= at {
-        return false;
+// Behind σφ, or wind in its place.
+fn after_ring<'a>(line: &'a [u8]) -> Rest<'a> {
+    if !line.starts_with(b"(") {
+        return after_number(line, Number::Ring);
     }
-    if line.len() - at < 3 {
-        return false;
-    }
-    if line[at] != 32 {
-        return false;
-    }
-    if line[at + 1] != 40 {
-        return false;
-    }
-    line[at + 2] == 115
+    let rest = after_text(line, b"(wind")?;
+    let rest = after_spaced(rest, Number::Gust)?;
+    let rest = after_spaced(rest, Number::Vented)?;
+    after_text(rest, b")")
 }
 
-// A further group, where one begins.
-fn then_group(line: &[u8], before: Stop) -> Stop {
-    let Stop::Behind(at) = before else {
-        return before;
-    };
-    if group_behind(line, at) {
-        return scan_group(line, at);
-    }
-    before
+// Behind a group, which begins with its space.
+fn after_group<'a>(line: &'a [u8]) -> Rest<'a> {
+    let rest = after_text(line, b" (stress")?;
+    let rest = after_spaced(rest, Number::Axial)?;
+    let rest = after_ring(after_text(rest, b" ")?)?;
+    let rest = after_spaced(rest, Number::Shear)?;
+    after_text(rest, b")")
 }
 
-// Up to seven further groups.
-fn then_groups(line: &[u8], before: Stop) -> Stop {
-    let mut stop = before;
-    let mut i: usize = 1;
-    while i < 8 {
-        stop = then_group(line, stop);
-        i += 1;
+// Behind one to eight groups.
+fn after_groups<'a>(line: &'a [u8]) -> Rest<'a> {
+    let mut rest = after_group(line)?;
+    for _ in 1..8 {
+        if rest.starts_with(b" (s") {
+            rest = after_group(rest)?;
+        }
     }
-    stop
+    Ok(rest)
 }
 
-// (inner p), which may be left out.
-fn then_inner(line: &[u8], before: Stop) -> Stop {
-    let Stop::Behind(at) = before else {
-        return before;
-    };
-    if item_end(line, at, b' ') == at {
-        return before;
+// Behind (inner p), which may be left out.
+fn after_inner<'a>(line: &'a [u8]) -> Rest<'a> {
+    if !line.starts_with(b" ") {
+        return Ok(line);
     }
-    scan(line, at, b" (inner N)")
+    let rest = after_text(line, b" (inner")?;
+    let rest = after_spaced(rest, Number::Pressure)?;
+    after_text(rest, b")")
 }
 
-// Where `line` stops being of the form: with the parts above this is the whole grammar, and `say_name` in form.rt has the names of A, B and so on.
-pub(crate) fn scan_line(line: &[u8]) -> Stop {
-    let stop = scan(line, 0, b"(shell A B C D E F G");
-    let stop = then_shortfall(line, stop);
-    let Stop::Behind(at) = stop else {
-        return stop;
-    };
-    let stop = scan_group(line, at);
-    let stop = then_groups(line, stop);
-    let stop = then_inner(line, stop);
-    then(line, stop, b")")
+// What stands behind the form, or where `line` stops being of it: with the parts above this is the whole grammar.
+pub(crate) fn scan_line<'a>(line: &'a [u8]) -> Rest<'a> {
+    let mut rest = after_text(line, b"(shell")?;
+    for n in [
+        Number::Radius,
+        Number::Thickness,
+        Number::Length,
+        Number::Modulus,
+        Number::Yield,
+        Number::Edges,
+        Number::Imperfection,
+    ] {
+        rest = after_spaced(rest, n)?;
+    }
+    let rest = after_shortfall(rest)?;
+    let rest = after_groups(rest)?;
+    let rest = after_inner(rest)?;
+    after_text(rest, b")")
 }

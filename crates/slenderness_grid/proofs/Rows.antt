@@ -52,6 +52,10 @@ ring_point k p w = ring (k ∷ p ∷ w ∷ []) (search quoted depth 60 fits 1000
 
 -- ---- the rows
 
+-- the same factors in another order
+pub of_equal : (e cap : ℕ) {k X Y X' Y' : ℕ} → X ≡ X' → Y ≡ Y' → k ≡ largest e cap X Y → k ≡ largest e cap X' Y'
+of_equal e cap x y h = rw (x, y) at h
+
 module _ (s : Cylinder) (q cap : ℕ) (small : cap < base) where
   pub axial_short_row : {k x y : ℕ} → k ≡ largest 2 cap x y → x ≡ axial_short_x s → y ≡ q ^ 2 * axial_short_y s → Highest (axial_short_cut s) q cap k
   axial_short_row is x y = by_root (axial_short_cut s) q cap 2 _ _ (lit< tt) small (λ k. refl) is x (y ∙ mul_comm (q ^ 2) (axial_short_y s))

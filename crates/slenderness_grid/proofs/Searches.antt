@@ -1,7 +1,10 @@
 -- Laws on the largest point that a number reaches: how the searches find it. Assumes nothing.
 use mathlib.Core.Path.{◌≡◌, ◌∙◌}
 use mathlib.Core.Bool.{Bool, true, false}
-use Prim.Native.Nat.{ℕ, ◌+◌, ◌*◌, ◌^◌, ◌≤◌, ◌<◌}
+use Rattle.std.specs.Prelude.{IfSome, MatchOption}
+use Rattle.std.specs.declared.option.Option.{Option}
+use Rattle.std.specs.declared.option.Option.TheVariants.{None, Some}
+use Prim.Native.Nat.{ℕ, ◌+◌, ◌*◌, ◌^◌, ◌<◌}
 use native.Mathlib.Nat.{mul-le-mul_right}
 use native.Mathlib.Decide.{dec_lt}
 use native.Mathlib.Omega.{arith}
@@ -14,9 +17,8 @@ use Rattle.algebra.proofs.Tests.{and_true, both_true, and_rest, missed_left, mis
 use Rattle.cylinder.proofs.Lawful.{Lawful}
 use Rattle.roots.specs.Largest.{test, largest}
 use Rattle.roots.proofs.Largest.{largest_edge}
-use Rattle.cylinder.specs.declared.Cylinder.{Cylinder}
-use Rattle.cylinder.specs.declared.Stress.{Stress}
-use Rattle.ideal.specs.Decision.{cut_of}
+use Rattle.steps.specs.Steps.{EdgeUpTo}
+use Rattle.steps.proofs.Edges.{edge_of}
 use Rattle.slenderness_grid.specs.Highest.{Highest}
 
 -- ---- by a root
@@ -37,27 +39,18 @@ by_root c q cap e X Y {r} {x} {y} pos small same is ex ey =
     pass : (leb r cap ≡ true) × (leb (r ^ e * X) Y ≡ true)
     pass = and_true (leb r cap) (leb (r ^ e * X) Y) edge.passes
 
+-- by what bounds settle, or else exactly
+pub found_or : (o : Option ℕ) (r n : ℕ) {post : Type 0} {want : ℕ → Type 0} → IfSome o want → MatchOption o post (λ k. r ≡ k) → (post → r ≡ n) → ((k : ℕ) → want k → k ≡ n) → r ≡ n
+found_or None r n w m exact settled = exact m
+found_or (Some k) r n w m exact settled = m ∙ settled k w
+
 -- ---- by a search
 
--- c reaches lo/q, and not hi/q; what is over the cap is not asked
-pub record Between (c : Cut) (q cap lo hi : ℕ) : Type 0 where
-  pub order : lo < hi
-  pub upper : hi ≤ cap + 1
-  pub reached : c.reaches lo q ≡ true
-  pub missed : hi ≤ cap → c.reaches hi q ≡ false
-
-pub start : (c : Cut) (q cap : ℕ) → c.reaches 0 q ≡ true → Between c q cap 0 (cap + 1)
-start c q cap h = record { order = omega arith; upper = omega arith; reached = h; missed = λ le. absurd (omega arith) }
-
-pub raised : {c : Cut} {q cap lo hi lo' hi' p : ℕ} → Between c q cap lo hi → p < hi → c.reaches p q ≡ true → lo' ≡ p → hi' ≡ hi → Between c q cap lo' hi'
-raised b lt h e f = rw (e, f) (record { order = lt; upper = b.upper; reached = h; missed = b.missed })
-
-pub lowered : {c : Cut} {q cap lo hi lo' hi' p : ℕ} → Between c q cap lo hi → lo < p → p < hi → c.reaches p q ≡ false → lo' ≡ lo → hi' ≡ p → Between c q cap lo' hi'
-lowered b gt lt h e f = rw (e, f) (record { order = gt; upper = omega (arith, b.upper); reached = b.reached; missed = λ le. h })
-
-pub found : {c : Cut} {q cap lo hi : ℕ} → Between c q cap lo hi → hi ≡ lo + 1 → Highest c q cap lo
-found {c} {q} {cap} {lo} {hi} b e =
-    record { most = omega (arith, b.upper); reached = b.reached; missed = λ lt. rw e at (b.missed (omega arith)) }
+-- the test says what c reaches
+pub by_search : (c : Cut) (q cap : ℕ) {r : ℕ} {says : ℕ → Bool → Type 0} → c.reaches 0 q ≡ true → ((p : ℕ) (b : Bool) → says p b → b ≡ c.reaches p q) → EdgeUpTo says cap r → Highest c q cap r
+by_search c q cap nought same edge =
+    let e = edge_of (λ p. c.reaches p q) same nought edge in
+    record { most = e.0; reached = e.1; missed = e.2 }
 
 -- ---- the smaller of two numbers
 
@@ -75,7 +68,3 @@ both_highest s t q cap k r pos law up low =
   where
     beyond : r ≡ k → r < cap → t.reaches (r + 1) q ≡ false
     beyond e lt = rw e (up.missed (omega arith))
-
--- the stress and the branch that the code has found
-pub highest_at : (s : Cylinder) (q cap r : ℕ) {k : Stress} {b : Bool} (k' : Stress) (b' : Bool) → k ≡ k' → b ≡ b' → Highest (cut_of k' b' s) q cap r → Highest (cut_of k b s) q cap r
-highest_at s q cap r k' b' e h d = rw (e, h) d

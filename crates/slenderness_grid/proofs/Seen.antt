@@ -1,5 +1,8 @@
 -- What bounds of the two branches' terms say of S against p/q. Assumes nothing.
-use mathlib.Core.Path.{◌≡◌, refl}
+use mathlib.Core.Path.{◌≡◌, refl, ◌∙◌}
+use Rattle.std.specs.Prelude.{MatchOption}
+use Rattle.std.specs.declared.option.Option.{Option}
+use Rattle.std.specs.declared.option.Option.TheVariants.{None, Some}
 use mathlib.Core.Bool.{Bool, true, false}
 use mathlib.Core.List.{[], ◌∷◌}
 use Prim.Native.Nat.{ℕ, ◌+◌, ◌-◌, ◌*◌, ◌^◌, ◌<◌}
@@ -7,10 +10,13 @@ use native.Mathlib.Omega.{arith}
 use borrow.Author.Tests.{leb-false}
 use lib.Dec.{leb}
 use Rattle.algebra.proofs.Ring.{ring, quoted}
-use Rattle.wide.specs.declared.Order.{Order}
-use Rattle.wide.specs.Order.{order_of}
+use Rattle.interval.specs.Around.{Lies}
+use Rattle.std.specs.declared.cmp.Ordering.{Ordering}
+use Rattle.std.specs.declared.cmp.Ordering.TheVariants.{Less, Equal, Greater}
+use Rattle.std.specs.Ordering.{is_le, nat_cmp}
+use Rattle.std.specs.Cmp.{ranked}
+use Rattle.algebra.proofs.Powers.{pow_two}
 use Rattle.root_order.specs.Decision.{Decides}
-use Rattle.order.proofs.Comparison.{order_less, order_greater}
 use Rattle.factors.specs.Product.{prod}
 use Rattle.cylinder.specs.declared.Cylinder.{Cylinder}
 use Rattle.cylinder.specs.Cut.{root_of}
@@ -23,10 +29,6 @@ use Rattle.shear_short.proofs.Row.{shear_short_row}
 
 pub square_times : (n x : ℕ) → n * n * x ≡ n ^ 2 * x
 square_times n x = ring (n ∷ x ∷ []) (search quoted depth 60 fits 100000) refl
-
--- nothing is below a difference that is 0
-none_below : {A : Type 0} (c d r z : ℕ) → c < d → z < (c - d) ^ 2 * r → A
-none_below c d r z lt h = let e : c - d ≡ 0 = omega arith in absurd (omega (arith, rw e at h))
 
 shear_x : (r l f q : ℕ) → q ^ 4 * (25600000000 * l ^ 4 * r * f ^ 2) ≡ prod (25600000000 ∷ r ∷ l ∷ l ∷ l ∷ l ∷ f ∷ f ∷ q ∷ q ∷ q ∷ q ∷ [])
 shear_x r l f q = ring (r ∷ l ∷ f ∷ q ∷ []) (search quoted depth 60 fits 100000) refl
@@ -46,6 +48,17 @@ bent_y n r f q = ring (n ∷ r ∷ f ∷ q ∷ []) (search quoted depth 60 fits 
 bent_z : (E w l p : ℕ) → 4 * l * (121 * E * w) * (p * p) ≡ prod (121 ∷ E ∷ w ∷ p ∷ p ∷ 4 ∷ l ∷ [])
 bent_z E w l p = ring (E ∷ w ∷ l ∷ p ∷ []) (search quoted depth 60 fits 100000) refl
 
+-- by what bounds tell, or else exactly
+pub seen_or : (A B : ℕ) {c : Bool} (o : Option Ordering) (r : Ordering) {post : Type 0} → Lies o A B → MatchOption o post (λ k. r ≡ k) → (post → is_le r ≡ c) → (r ≡ nat_cmp A B → is_le r ≡ c) → is_le r ≡ c
+seen_or A B None r l m exact seen = exact m
+seen_or A B (Some k) r l m exact seen = seen (m ∙ l)
+
+-- 0 is at most anything
+nought_least : (x y : ℕ) (o : Ordering) → o ≡ nat_cmp (0 ^ 2 * x) y → is_le o ≡ true
+nought_least x y Less h = refl
+nought_least x y Equal h = refl
+nought_least x y Greater h = let lt : y < 0 ^ 2 * x = ranked (0 ^ 2 * x) y Greater h in absurd (omega (arith, simp pow_two at lt))
+
 -- ---- shear, short
 
 module _ (s : Cylinder) (p q : ℕ) where
@@ -56,16 +69,10 @@ module _ (s : Cylinder) (p q : ℕ) where
   abbrev pub shear_rest : ℕ
   shear_rest = q ^ 4 * shear_d s - shear_c s * (p * p * (p * p))
 
-  decided : {o : Order} → o ≡ order_of (shear_up ^ 2 * s.wall) (shear_rest ^ 2 * (200 * s.radius)) → Decides o (shear_short_cut s) p q
-  decided =
+  pub shear_seen : {o : Ordering} → o ≡ nat_cmp (shear_up ^ 2 * s.wall) (shear_rest ^ 2 * (200 * s.radius)) → Decides o (shear_short_cut s) p q
+  shear_seen =
       shear_short_row s p q (shear_x s.radius s.length s.yield_stress q) (shear_y s.modulus s.wall s.radius p) refl
       (shear_z s.modulus s.wall s.length p)
-
-  pub shear_reached : shear_up ^ 2 * s.wall < shear_rest ^ 2 * (200 * s.radius) → true ≡ (shear_short_cut s).reaches p q
-  shear_reached h = (decided (order_less _ _ h)).reaches
-
-  pub shear_missed : shear_rest ^ 2 * (200 * s.radius) < shear_up ^ 2 * s.wall → false ≡ (shear_short_cut s).reaches p q
-  shear_missed h = (decided (order_greater _ _ h)).reaches
 
 -- ---- axial stress, long
 
@@ -80,22 +87,20 @@ module _ (s : Cylinder) (p q : ℕ) where
   abbrev pub bent_root : ℕ
   bent_root = bent_e s * (p * p)
 
-  bent_decided : {o : Order} → leb bent_grid bent_up ≡ true → o ≡ order_of ((bent_up - bent_grid) ^ 2 * (200 * s.radius)) (bent_root ^ 2 * s.wall) → Decides o (root_of 2 (axial_bent s)) p q
+  bent_decided : {o : Ordering} → leb bent_grid bent_up ≡ true → o ≡ nat_cmp ((bent_up - bent_grid) ^ 2 * (200 * s.radius)) (bent_root ^ 2 * s.wall) → Decides o (root_of 2 (axial_bent s)) p q
   bent_decided e =
       axial_bent_row s p q refl (bent_x s.modulus s.wall s.radius (10 * eta s.edges + 2) p) (bent_y (eta s.edges) s.radius s.yield_stress q) e refl
       (bent_z s.modulus s.wall s.length p)
 
-  pub bent_reached : (bent_up - bent_grid) ^ 2 * (200 * s.radius) < bent_root ^ 2 * s.wall → true ≡ (root_of 2 (axial_bent s)).reaches p q
-  bent_reached h = go (leb bent_grid bent_up) refl
-    where
-      go : (b : Bool) → leb bent_grid bent_up ≡ b → true ≡ (root_of 2 (axial_bent s)).reaches p q
-      go true e = (bent_decided e (order_less _ _ h)).reaches
-      go false e =
-          (axial_bent_low s p q refl (bent_x s.modulus s.wall s.radius (10 * eta s.edges + 2) p) (bent_y (eta s.edges) s.radius s.yield_stress q) e).reaches
+  -- a difference that is 0 is at most anything
+  bent_nought : {o : Ordering} → bent_up < bent_grid → o ≡ nat_cmp ((bent_up - bent_grid) ^ 2 * (200 * s.radius)) (bent_root ^ 2 * s.wall) → is_le o ≡ true
+  bent_nought {o} lt h = let e : bent_up - bent_grid ≡ 0 = omega arith in nought_least (200 * s.radius) (bent_root ^ 2 * s.wall) o (rw e at h)
 
-  pub bent_missed : bent_root ^ 2 * s.wall < (bent_up - bent_grid) ^ 2 * (200 * s.radius) → false ≡ (root_of 2 (axial_bent s)).reaches p q
-  bent_missed h = go (leb bent_grid bent_up) refl
+  pub bent_seen : (o : Ordering) → o ≡ nat_cmp ((bent_up - bent_grid) ^ 2 * (200 * s.radius)) (bent_root ^ 2 * s.wall) → is_le o ≡ (root_of 2 (axial_bent s)).reaches p q
+  bent_seen o h = go (leb bent_grid bent_up) refl
     where
-      go : (b : Bool) → leb bent_grid bent_up ≡ b → false ≡ (root_of 2 (axial_bent s)).reaches p q
-      go true e = (bent_decided e (order_greater _ _ h)).reaches
-      go false e = none_below bent_up bent_grid _ _ (leb-false bent_grid bent_up e) h
+      go : (b : Bool) → leb bent_grid bent_up ≡ b → is_le o ≡ (root_of 2 (axial_bent s)).reaches p q
+      go true e = (bent_decided e h).reaches
+      go false e =
+          bent_nought (leb-false bent_grid bent_up e) h
+          ∙ (axial_bent_low s p q refl (bent_x s.modulus s.wall s.radius (10 * eta s.edges + 2) p) (bent_y (eta s.edges) s.radius s.yield_stress q) e).reaches

@@ -2,130 +2,154 @@
 // exact comparisons.
 #![tactic(auto)]
 
-ghost use Rattle.std.specs.Prelude.{◌≡◌, true, ℕ, ◌+◌, ◌-◌, ◌*◌, ◌^◌, ◌≤◌, ◌<◌};
+ghost use Rattle.std.specs.Prelude.{◌≡◌, ℕ, ◌+◌, ◌-◌, ◌*◌, ◌^◌, ◌≤◌, ◌<◌};
 ghost use Rattle.wide.specs.Value.{base};
-ghost use Rattle.interval.specs.Around.{Around};
-ghost use Rattle.cylinder.specs.InLimits.{InLimits};
+ghost use Rattle.interval.specs.declared.Interval.{Interval};
+ghost use Rattle.interval.specs.Around.{Around, Lies};
 ghost use Rattle.cylinder.specs.WholeIdeal.{axial_short_cut, axial_bent, axial_floor, axial_long_cut, ring_short_cut, ring_long_cut, shear_short_cut, shear_long_cut};
 ghost use Rattle.cylinder.specs.Cut.{root_of};
-ghost use Rattle.ideal.specs.Decision.{cut_of};
-ghost use Rattle.slenderness_grid.specs.Highest.{Highest, curved_of};
-ghost use Rattle.guess.specs.Roots.{RootTable};
-ghost use Rattle.guess.specs.declared.Degree.TheVariants.{Two, Four};
+ghost use Rattle.ideal.specs.Decision.{cut_at};
+ghost use Rattle.slenderness_grid.specs.Highest.{Highest};
 ghost use Rattle.roots.specs.Degree.{degree};
 ghost use Rattle.roots.specs.Largest.{largest};
 ghost use Rattle.slenderness_terms.specs.TermsFor.{TwoTerms, ThreeTerms, axial_short_x, axial_short_y, bent_c, bent_d, bent_e, ring_short_x, ring_short_y, ring_long_x, ring_long_y, shear_c, shear_d, shear_e, shear_long_x, shear_long_y, TermsFor};
-ghost use Rattle.slenderness_grid.specs.TermsOf.{Sheared, Bent, TermsOf};
+ghost use Rattle.slenderness_grid.specs.TermsOf.{Sheared, Bent};
 ghost use Rattle.slenderness_grid.specs.Guessed.{lifted_of, RoughRoot, PlainGuess, CurvedGuess, GuessFor};
 
-use cylinder::{Cylinder, Stress};
-use guess::Degree;
-use interval::{Interval, Side};
-use interval_root::{Found, guess_of};
+use cylinder::{Cylinder, Stress, ValidCylinder};
+use guess::{Degree, Roots};
+use interval::Interval;
+use interval_root::guess_of;
+use lengths::Branch;
 use slenderness_terms::Terms;
+use std::cmp::Ordering;
 
 // The finer of the two grids: its points are 1/200,000,000 apart.
 const FINER: u64 = 200000000;
 
-// What bounds settle of S where it is a root: the largest k up to the cap such that k² c or k⁴ c is at most q² d or q⁴ d.
-fn settled(t: Terms, q: u64, d: Degree, cap: u64, near: u64) -> Found
-    requires { (cap < base) × (q < base) }
-    ensures { result.known ≡ true → (x y : ℕ) → TwoTerms x y t → result.at ≡ largest (degree d) cap x (q ^ degree d * y) }
+// Where S is looked for: among the points k/q of a grid, for k up to the cap, and near a guess first.
+#[derive(Clone, Copy)]
+pub struct Grid {
+    pub q: u64,
+    pub cap: u64,
+    pub near: u64,
+    pub ghost small: { (0 < q) × (q < base) × (cap < base) },
+}
+
+// S where it is a root: the largest k up to the cap such that k² c or k⁴ c is at most q² d or q⁴ d, by bounds, where these
+// settle it, else by exact comparisons.
+fn root_highest<F: FnOnce() -> u64>(t: Terms, d: Degree, g: Grid, exact: F) -> u64
+    requires { F.IsAlwaysCallable exact }
+    ensures { (x y : ℕ) → TwoTerms x y t → ((k : ℕ) → F.post exact k → k ≡ largest (degree d) g.cap x (g.q ^ degree d * y)) → result ≡ largest (degree d) g.cap x (g.q ^ degree d * y) }
 {
-    let y = interval_root::raised(t.d, d, q);
-    interval_root::settled(t.c, y, d, cap, near)
+    let y = interval_root::raised(t.d, d, g.q);
+    interval_root::settled(t.c, y, d, g.cap, g.near).unwrap_or_else(exact)
 }
 
 // Axial stress, short: the largest k up to the cap such that S reaches k/q.
-fn axial_short_highest(
-    roots: &[u8; 1024],
-    s: Cylinder,
-    t: Terms,
-    q: u64,
-    cap: u64,
-    near: u64,
-) -> u64
-    requires { (cap < base) × (q < base) × (TwoTerms (axial_short_x s) (axial_short_y s) t) × RootTable roots.now }
-    ensures { Highest (axial_short_cut s) q cap result }
+fn axial_short_highest(roots: &Roots, s: Cylinder, t: Terms, g: Grid) -> u64
+    requires { TwoTerms (axial_short_x s) (axial_short_y s) t }
+    ensures { Highest (axial_short_cut s) g.q g.cap result }
 {
-    let found = settled(t, q, Degree::Two, cap, near);
-    if found.known {
-        return found.at;
-    }
-    let e = s.modulus;
-    let w = s.wall;
-    let r = s.radius;
-    let l = s.length;
-    let f = [48400, e, w, l, l];
-    let g = [363, e, w, w, r];
-    let h = [16000000, r, l, l, s.yield_stress, q, q];
-    root_search::exact_sum(roots, &f, &g, &h, Degree::Two, cap)
+    let Cylinder {
+        radius: r,
+        wall: w,
+        length: l,
+        modulus: e,
+        yield_stress: v,
+        ..
+    } = s;
+    let x = [48400, e, w, l, l];
+    let y = [363, e, w, w, r];
+    let z = [16000000, r, l, l, v, g.q, g.q];
+    root_highest(
+        t,
+        Degree::Two,
+        g,
+        || root_search::exact_sum(roots, &x, &y, &z, Degree::Two, g.cap),
+    )
 }
 
 // Axial stress, long, where Cx is at its least.
-fn axial_floor_highest(roots: &[u8; 1024], s: Cylinder, q: u64, cap: u64) -> u64
-    requires { (cap < base) × RootTable roots.now }
-    ensures { Highest (root_of 2 (axial_floor s)) q cap result }
+fn axial_floor_highest(roots: &Roots, s: Cylinder, g: Grid) -> u64
+    ensures { Highest (root_of 2 (axial_floor s)) g.q g.cap result }
 {
-    let f = [726, s.modulus, s.wall];
-    let h = [400000, s.radius, s.yield_stress, q, q];
-    root_search::root(roots, &f, &h, Degree::Two, cap)
+    let x = [726, s.modulus, s.wall];
+    let z = [400000, s.radius, s.yield_stress, g.q, g.q];
+    root_search::root(roots, &x, &z, Degree::Two, g.cap)
 }
 
 // Ring stress, short.
-fn ring_short_highest(roots: &[u8; 1024], s: Cylinder, t: Terms, q: u64, cap: u64, near: u64) -> u64
-    requires { (cap < base) × (q < base) × (TwoTerms (ring_short_x s) (ring_short_y s) t) × RootTable roots.now }
-    ensures { Highest (ring_short_cut s) q cap result }
+fn ring_short_highest(roots: &Roots, s: Cylinder, t: Terms, g: Grid) -> u64
+    requires { TwoTerms (ring_short_x s) (ring_short_y s) t }
+    ensures { Highest (ring_short_cut s) g.q g.cap result }
 {
-    let found = settled(t, q, Degree::Four, cap, near);
-    if found.known {
-        return found.at;
-    }
-    let c = lengths::ring_edges(s.edges);
-    let e = s.modulus;
-    let w = s.wall;
-    let l = s.length;
-    let v = s.yield_stress;
-    let f = [529, c, c, e, e, w, w, w];
-    let h = [80000000000, s.radius, l, l, v, v, q, q, q, q];
-    root_search::exact(roots, &f, &h, Degree::Four, cap)
+    let Cylinder {
+        radius: r,
+        wall: w,
+        length: l,
+        modulus: e,
+        yield_stress: v,
+        edges,
+        ..
+    } = s;
+    let c = lengths::ring_edges(edges);
+    let x = [529, c, c, e, e, w, w, w];
+    let z = [80000000000, r, l, l, v, v, g.q, g.q, g.q, g.q];
+    root_highest(
+        t,
+        Degree::Four,
+        g,
+        || root_search::exact(roots, &x, &z, Degree::Four, g.cap),
+    )
 }
 
 // Ring stress, long.
-fn ring_long_highest(roots: &[u8; 1024], s: Cylinder, t: Terms, q: u64, cap: u64, near: u64) -> u64
-    requires { (cap < base) × (q < base) × (TwoTerms (ring_long_x s) (ring_long_y s) t) × RootTable roots.now }
-    ensures { Highest (ring_long_cut s) q cap result }
+fn ring_long_highest(roots: &Roots, s: Cylinder, t: Terms, g: Grid) -> u64
+    requires { TwoTerms (ring_long_x s) (ring_long_y s) t }
+    ensures { Highest (ring_long_cut s) g.q g.cap result }
 {
-    let found = settled(t, q, Degree::Two, cap, near);
-    if found.known {
-        return found.at;
-    }
-    let c = lengths::ring_edges(s.edges);
-    let e = s.modulus;
-    let r = s.radius;
-    let l = s.length;
-    let f = [44, e, s.wall, s.wall, l, l, l, l];
-    let g = [50750, e, c, c, c, c, r, r, r, r, r, r];
-    let h = [6400000, r, r, l, l, l, l, s.yield_stress, q, q];
-    root_search::exact_sum(roots, &f, &g, &h, Degree::Two, cap)
+    let Cylinder {
+        radius: r,
+        wall: w,
+        length: l,
+        modulus: e,
+        yield_stress: v,
+        edges,
+        ..
+    } = s;
+    let c = lengths::ring_edges(edges);
+    let x = [44, e, w, w, l, l, l, l];
+    let y = [50750, e, c, c, c, c, r, r, r, r, r, r];
+    let z = [6400000, r, r, l, l, l, l, v, g.q, g.q];
+    root_highest(
+        t,
+        Degree::Two,
+        g,
+        || root_search::exact_sum(roots, &x, &y, &z, Degree::Two, g.cap),
+    )
 }
 
 // Shear, long.
-fn shear_long_highest(roots: &[u8; 1024], s: Cylinder, t: Terms, q: u64, cap: u64, near: u64) -> u64
-    requires { (cap < base) × (q < base) × (TwoTerms (shear_long_x s) (shear_long_y s) t) × RootTable roots.now }
-    ensures { Highest (shear_long_cut s) q cap result }
+fn shear_long_highest(roots: &Roots, s: Cylinder, t: Terms, g: Grid) -> u64
+    requires { TwoTerms (shear_long_x s) (shear_long_y s) t }
+    ensures { Highest (shear_long_cut s) g.q g.cap result }
 {
-    let found = settled(t, q, Degree::Four, cap, near);
-    if found.known {
-        return found.at;
-    }
-    let e = s.modulus;
-    let w = s.wall;
-    let r = s.radius;
-    let v = s.yield_stress;
-    let f = [3, e, e, w, w, w];
-    let h = [128000000, r, r, r, v, v, q, q, q, q];
-    root_search::exact(roots, &f, &h, Degree::Four, cap)
+    let Cylinder {
+        radius: r,
+        wall: w,
+        modulus: e,
+        yield_stress: v,
+        ..
+    } = s;
+    let x = [3, e, e, w, w, w];
+    let z = [128000000, r, r, r, v, v, g.q, g.q, g.q, g.q];
+    root_highest(
+        t,
+        Degree::Four,
+        g,
+        || root_search::exact(roots, &x, &z, Degree::Four, g.cap),
+    )
 }
 
 // Bounds of a² x.
@@ -135,99 +159,59 @@ fn squared(a: Interval, x: u64) -> Interval
     interval::times(interval::times(a, a), interval::of(x))
 }
 
+// How a √x compares with b √y, if bounds of a and b tell.
+fn parted_roots(a: Interval, x: u64, b: Interval, y: u64) -> Option<Ordering>
+    ensures { (n m : ℕ) → Around a n → Around b m → Lies result (n ^ 2 * x) (m ^ 2 * y) }
+{
+    interval::parted(squared(a, x), squared(b, y))
+}
+
 // Whether S reaches p/q for shear, short: e p⁴ √(w/(200 r)) is at most d q⁴ - c p⁴.
-fn shear_reaches(s: Cylinder, p: u64, q: u64, t: Terms) -> bool
-    requires { (InLimits s) × (p < base) × Sheared s q t }
-    ensures { result ≡ (shear_short_cut s).reaches p q }
+fn shear_reaches(s: ValidCylinder, p: u64, q: u64, t: Terms) -> bool
+    requires { (p < base) × Sheared s.cylinder q t }
+    ensures { result ≡ (shear_short_cut s.cylinder).reaches p q }
 {
     let x = interval::of(p * p);
     let m = interval::times(x, x);
     let a = interval::times(t.e, m);
     let b = interval::minus(t.d, interval::times(t.c, m));
-    let l = squared(a, s.wall);
-    let r = squared(b, 200 * s.radius);
-    match interval::parted(l, r) {
-        Side::Below => true,
-        Side::Above => false,
-        Side::Unseen => order::is_at_most(shear_short::shear_short_order(s, p, q)),
-    }
+    parted_roots(a, s.cylinder.wall, b, 200 * s.cylinder.radius)
+        .unwrap_or_else(|| shear_short::shear_short_order(s.cylinder, p, q))
+        .is_le()
 }
 
 // Whether S reaches p/q for axial stress, long: c p² - d q² is at most e p² √(w/(200 r)).
-fn bent_reaches(s: Cylinder, p: u64, q: u64, t: Terms) -> bool
-    requires { (InLimits s) × (p < base) × Bent s q t }
-    ensures { result ≡ (root_of 2 (axial_bent s)).reaches p q }
+fn bent_reaches(s: ValidCylinder, p: u64, q: u64, t: Terms) -> bool
+    requires { (p < base) × Bent s.cylinder q t }
+    ensures { result ≡ (root_of 2 (axial_bent s.cylinder)).reaches p q }
 {
     let m = interval::of(p * p);
     let a = interval::minus(interval::times(t.c, m), t.d);
     let b = interval::times(t.e, m);
-    let l = squared(a, 200 * s.radius);
-    let r = squared(b, s.wall);
-    match interval::parted(l, r) {
-        Side::Below => true,
-        Side::Above => false,
-        Side::Unseen => order::is_at_most(axial_long::axial_bent_order(s, p, q)),
-    }
+    parted_roots(a, 200 * s.cylinder.radius, b, s.cylinder.wall)
+        .unwrap_or_else(|| axial_long::axial_bent_order(s.cylinder, p, q))
+        .is_le()
 }
 
 // The same number times 2^32, for a guess.
+#[tactic(auto, unfolding(crate::specs::Guessed::lifted_of))]
 fn lifted(n: Interval) -> Interval
     ensures { result ≡ lifted_of n }
 {
     if 8192 < n.up {
-        return n;
-    }
-    Interval {
-        low: n.low,
-        gap: n.gap,
-        up: n.up + 32,
+        n
+    } else {
+        Interval { up: n.up + 32, ..n }
     }
 }
 
 // A number near √(w/(200 r)) · 2^32.
-fn rough_root(roots: &[u8; 1024], s: Cylinder) -> u64
-    requires { (InLimits s) × RootTable roots.now }
-    ensures { RoughRoot s result }
+fn rough_root(roots: &Roots, s: ValidCylinder) -> u64
+    ensures { RoughRoot s.cylinder result }
 {
-    let a = interval::of(200 * s.radius);
-    let b = interval::of(s.wall);
+    let a = interval::of(200 * s.cylinder.radius);
+    let b = interval::of(s.cylinder.wall);
     guess_of(roots, a, lifted(lifted(b)), Degree::Two)
-}
-
-// Whether S reaches p/q, for the two branches.
-fn curved_reaches(shear: bool, s: Cylinder, p: u64, q: u64, t: Terms) -> bool
-    requires { (InLimits s) × (p < base) × TermsOf shear s q t }
-    ensures { result ≡ (curved_of shear s).reaches p q }
-{
-    if shear {
-        shear_reaches(s, p, q, t)
-    } else {
-        bent_reaches(s, p, q, t)
-    }
-}
-
-// The same two branches: the largest k up to the cap such that S reaches k/q. It is asked at the wish, next to it, and in
-// steps that double; once both sides are known, in the middle.
-fn curved_highest(shear: bool, s: Cylinder, q: u64, cap: u64, near: u64, t: Terms) -> u64
-    requires { (InLimits s) × (cap < base) × TermsOf shear s q t }
-    ensures { Highest (curved_of shear s) q cap result }
-{
-    let mut lo = 0;
-    let mut hi = cap + 1;
-    let mut wish = steps::between(near, cap);
-    let mut step = 1;
-    while lo + 1 < hi {
-        let p = steps::probe(lo, hi, wish);
-        if curved_reaches(shear, s, p, q, t) {
-            lo = p;
-            wish = p + step;
-        } else {
-            hi = p;
-            wish = steps::back(p, step);
-        }
-        step = step * 2 % 8589934592;
-    }
-    lo
 }
 
 // The terms at the grid q.
@@ -235,136 +219,83 @@ fn scaled(t: Terms, d: Degree, q: u64) -> Terms
     requires { q < base }
     ensures { (x y z : ℕ) → ThreeTerms x y z t → ThreeTerms x (q ^ degree d * y) z result }
 {
-    let c = t.c;
-    let e = t.e;
-    let y = interval_root::raised(t.d, d, q);
-    Terms { c, d: y, e }
+    Terms {
+        d: interval_root::raised(t.d, d, q),
+        ..t
+    }
 }
 
 // Axial stress, long: the smaller of two numbers, so the second is looked for up to the first.
-fn axial_long_highest(roots: &[u8; 1024], s: Cylinder, t: Terms, q: u64, cap: u64, near: u64) -> u64
-    requires { (InLimits s) × (cap < base) × (0 < q) × (q < base) × (ThreeTerms (bent_c s) (bent_d s) (bent_e s) t) × RootTable roots.now }
-    ensures { Highest (axial_long_cut s) q cap result }
+fn axial_long_highest(roots: &Roots, s: ValidCylinder, t: Terms, g: Grid) -> u64
+    requires { ThreeTerms (bent_c s.cylinder) (bent_d s.cylinder) (bent_e s.cylinder) t }
+    ensures { Highest (axial_long_cut s.cylinder) g.q g.cap result }
 {
-    let k = axial_floor_highest(roots, s, q, cap);
-    let u = scaled(t, Degree::Two, q);
-    curved_highest(false, s, q, k, near, u)
+    let k = axial_floor_highest(roots, s.cylinder, g);
+    let u = scaled(t, Degree::Two, g.q);
+    steps::largest(k, g.near, |p| bent_reaches(s, p, g.q, u))
 }
 
 // Shear, short.
-fn shear_short_highest(
-    roots: &[u8; 1024],
-    s: Cylinder,
-    t: Terms,
-    q: u64,
-    cap: u64,
-    near: u64,
-) -> u64
-    requires { (InLimits s) × (cap < base) × (q < base) × (ThreeTerms (shear_c s) (shear_d s) (shear_e s) t) × RootTable roots.now }
-    ensures { Highest (shear_short_cut s) q cap result }
+fn shear_short_highest(s: ValidCylinder, t: Terms, g: Grid) -> u64
+    requires { ThreeTerms (shear_c s.cylinder) (shear_d s.cylinder) (shear_e s.cylinder) t }
+    ensures { Highest (shear_short_cut s.cylinder) g.q g.cap result }
 {
-    let u = scaled(t, Degree::Four, q);
-    curved_highest(true, s, q, cap, near, u)
+    let u = scaled(t, Degree::Four, g.q);
+    steps::largest(g.cap, g.near, |p| shear_reaches(s, p, g.q, u))
 }
 
 // A guess at S where it is a root, in points of the finer grid.
-fn plain_guess(roots: &[u8; 1024], t: Terms, d: Degree) -> u64
-    requires { RootTable roots.now }
+fn plain_guess(roots: &Roots, t: Terms, d: Degree) -> u64
     ensures { PlainGuess d t result }
 {
+    guess_of(roots, t.c, interval_root::raised(t.d, d, FINER), d)
+}
+
+// A guess at S where e √(w/(200 r)) is joined to c, that is added to it or taken off: the root of d over that.
+fn curved_guess<F: FnOnce(Interval, Interval) -> Interval>(
+    roots: &Roots,
+    s: ValidCylinder,
+    t: Terms,
+    d: Degree,
+    join: F,
+) -> u64
+    requires { F.IsAlwaysCallable join }
+    ensures { (joined : ℕ → ℕ → ℕ) → ((a b r : Interval) → F.post join a b r → (x y : ℕ) → Around a x → Around b y → Around r (joined x y)) → CurvedGuess joined d s.cylinder t result }
+{
+    let root = rough_root(roots, s);
+    let e = interval::times(t.e, interval::of(root));
+    let x = join(lifted(t.c), e);
     let y = interval_root::raised(t.d, d, FINER);
-    guess_of(roots, t.c, y, d)
-}
-
-// A guess at S for shear, short: the fourth root of d q⁴/(c + e √(w/(200 r))).
-fn shear_guess(roots: &[u8; 1024], s: Cylinder, t: Terms) -> u64
-    requires { (InLimits s) × RootTable roots.now }
-    ensures { CurvedGuess ◌+◌ Four s t result }
-{
-    let root = rough_root(roots, s);
-    let e = interval::times(t.e, interval::of(root));
-    let x = interval::plus(lifted(t.c), e);
-    let y = interval_root::raised(t.d, Degree::Four, FINER);
-    guess_of(roots, x, lifted(y), Degree::Four)
-}
-
-// A guess at S for axial stress, long: √(d q²/(c - e √(w/(200 r)))).
-fn bent_guess(roots: &[u8; 1024], s: Cylinder, t: Terms) -> u64
-    requires { (InLimits s) × RootTable roots.now }
-    ensures { CurvedGuess ◌-◌ Two s t result }
-{
-    let root = rough_root(roots, s);
-    let e = interval::times(t.e, interval::of(root));
-    let x = interval::minus(lifted(t.c), e);
-    let y = interval_root::raised(t.d, Degree::Two, FINER);
-    guess_of(roots, x, lifted(y), Degree::Two)
+    guess_of(roots, x, lifted(y), d)
 }
 
 // A guess at S in points of the finer grid.
-pub fn guess_for(roots: &[u8; 1024], kind: Stress, short: bool, s: Cylinder, t: Terms) -> u64
-    requires { (InLimits s) × RootTable roots.now }
-    ensures { GuessFor kind short s t result }
+pub fn guess_for(roots: &Roots, b: Branch, t: Terms) -> u64
+    ensures { GuessFor b.kind b.short b.shell.cylinder t result }
 {
-    match kind {
-        Stress::Axial => {
-            if short {
-                plain_guess(roots, t, Degree::Two)
-            } else {
-                bent_guess(roots, s, t)
-            }
-        }
-        Stress::Ring => {
-            if short {
-                plain_guess(roots, t, Degree::Four)
-            } else {
-                plain_guess(roots, t, Degree::Two)
-            }
-        }
-        Stress::Shear => {
-            if short {
-                shear_guess(roots, s, t)
-            } else {
-                plain_guess(roots, t, Degree::Four)
-            }
-        }
+    let s = b.shell;
+    match (b.kind, b.short) {
+        (Stress::Axial, true) => plain_guess(roots, t, Degree::Two),
+        (Stress::Axial, false) => curved_guess(roots, s, t, Degree::Two, interval::minus),
+        (Stress::Ring, true) => plain_guess(roots, t, Degree::Four),
+        (Stress::Ring, false) => plain_guess(roots, t, Degree::Two),
+        (Stress::Shear, true) => curved_guess(roots, s, t, Degree::Four, interval::plus),
+        (Stress::Shear, false) => plain_guess(roots, t, Degree::Four),
     }
 }
 
 // The largest k up to the cap such that S reaches k/q. It is asked at the guess first.
-pub fn highest(
-    roots: &[u8; 1024],
-    kind: Stress,
-    short: bool,
-    s: Cylinder,
-    t: Terms,
-    q: u64,
-    cap: u64,
-    near: u64,
-) -> u64
-    requires { (InLimits s) × (cap < base) × (0 < q) × (q < base) × (TermsFor kind short s t) × RootTable roots.now }
-    ensures { Highest (cut_of kind short s) q cap result }
+pub fn highest(roots: &Roots, b: Branch, t: Terms, g: Grid) -> u64
+    requires { TermsFor b.kind b.short b.shell.cylinder t }
+    ensures { Highest (cut_at b) g.q g.cap result }
 {
-    match kind {
-        Stress::Axial => {
-            if short {
-                axial_short_highest(roots, s, t, q, cap, near)
-            } else {
-                axial_long_highest(roots, s, t, q, cap, near)
-            }
-        }
-        Stress::Ring => {
-            if short {
-                ring_short_highest(roots, s, t, q, cap, near)
-            } else {
-                ring_long_highest(roots, s, t, q, cap, near)
-            }
-        }
-        Stress::Shear => {
-            if short {
-                shear_short_highest(roots, s, t, q, cap, near)
-            } else {
-                shear_long_highest(roots, s, t, q, cap, near)
-            }
-        }
+    let s = b.shell;
+    match (b.kind, b.short) {
+        (Stress::Axial, true) => axial_short_highest(roots, s.cylinder, t, g),
+        (Stress::Axial, false) => axial_long_highest(roots, s, t, g),
+        (Stress::Ring, true) => ring_short_highest(roots, s.cylinder, t, g),
+        (Stress::Ring, false) => ring_long_highest(roots, s.cylinder, t, g),
+        (Stress::Shear, true) => shear_short_highest(s, t, g),
+        (Stress::Shear, false) => shear_long_highest(roots, s.cylinder, t, g),
     }
 }

@@ -4,115 +4,22 @@ use mathlib.Core.List.{[], ◌∷◌}
 use Prim.Native.Nat.{ℕ, ◌+◌, ◌*◌, ◌^◌, ◌≤◌}
 use native.Mathlib.Nat.{mul-le-mul}
 use Rattle.algebra.proofs.Ring.{ring, quoted}
-use Rattle.cylinder.specs.declared.Cylinder.{Cylinder}
-use Rattle.cylinder.specs.InLimits.{InLimits}
+use Rattle.cylinder.specs.declared.ValidCylinder.{ValidCylinder}
 
 -- ---- how large
 
-module _ (s : Cylinder) (ok : InLimits s) where
-  pub most_ew : s.modulus * s.wall ≤ 4400000000
-  most_ew = mul-le-mul ok.modulus_most ok.wall_most
+module _ (s : ValidCylinder) where
+  most_ww : s.cylinder.wall * s.cylinder.wall ≤ 400000000
+  most_ww = mul-le-mul s.in_limits.wall_most s.in_limits.wall_most
 
-  pub most_ewr : s.modulus * s.wall * s.radius ≤ 220000000000000
-  most_ewr = mul-le-mul most_ew ok.radius_most
+  pub most_wwww : s.cylinder.wall * s.cylinder.wall * s.cylinder.wall * s.cylinder.wall ≤ 160000000000000000
+  most_wwww = mul-le-mul (mul-le-mul most_ww s.in_limits.wall_most) s.in_limits.wall_most
 
-  pub most_ewl : s.modulus * s.wall * s.length ≤ 880000000000000
-  most_ewl = mul-le-mul most_ew ok.length_most
+  most_ll : s.cylinder.length * s.cylinder.length ≤ 40000000000
+  most_ll = mul-le-mul s.in_limits.length_most s.in_limits.length_most
 
-  pub most_ll : s.length * s.length ≤ 40000000000
-  most_ll = mul-le-mul ok.length_most ok.length_most
-
-  pub most_rw : s.radius * s.wall ≤ 1000000000
-  most_rw = mul-le-mul ok.radius_most ok.wall_most
-
-  pub most_rf : s.radius * s.yield_stress ≤ 35000000
-  most_rf = mul-le-mul ok.radius_most ok.yield_most
-
-  pub most_lf : s.length * s.yield_stress ≤ 140000000
-  most_lf = mul-le-mul ok.length_most ok.yield_most
-
-  pub most_lfr : s.length * s.yield_stress * s.radius ≤ 7000000000000
-  most_lfr = mul-le-mul most_lf ok.radius_most
-
-  pub most_ee : s.modulus * s.modulus ≤ 48400000000
-  most_ee = mul-le-mul ok.modulus_most ok.modulus_most
-
-  pub most_ww : s.wall * s.wall ≤ 400000000
-  most_ww = mul-le-mul ok.wall_most ok.wall_most
-
-  pub most_www : s.wall * s.wall * s.wall ≤ 8000000000000
-  most_www = mul-le-mul most_ww ok.wall_most
-
-  pub most_wwww : s.wall * s.wall * s.wall * s.wall ≤ 160000000000000000
-  most_wwww = mul-le-mul most_www ok.wall_most
-
-  pub most_rr : s.radius * s.radius ≤ 2500000000
-  most_rr = mul-le-mul ok.radius_most ok.radius_most
-
-  pub most_rrr : s.radius * s.radius * s.radius ≤ 125000000000000
-  most_rrr = mul-le-mul most_rr ok.radius_most
-
-  pub most_lll : s.length * s.length * s.length ≤ 8000000000000000
-  most_lll = mul-le-mul most_ll ok.length_most
-
-  pub most_ff : s.yield_stress * s.yield_stress ≤ 490000
-  most_ff = mul-le-mul ok.yield_most ok.yield_most
-
-  pub most_llf : s.length * s.length * s.yield_stress ≤ 28000000000000
-  most_llf = mul-le-mul most_ll ok.yield_most
-
-  pub most_llff : s.length * s.length * s.yield_stress * s.yield_stress ≤ 19600000000000000
-  most_llff = mul-le-mul most_llf ok.yield_most
-
-  pub most_eer : s.modulus * s.modulus * s.radius ≤ 2420000000000000
-  most_eer = mul-le-mul most_ee ok.radius_most
-
-  pub most_eww : s.modulus * s.wall * s.wall ≤ 88000000000000
-  most_eww = mul-le-mul most_ew ok.wall_most
-
-  pub most_fr : s.yield_stress * s.radius ≤ 35000000
-  most_fr = mul-le-mul ok.yield_most ok.radius_most
-
-  pub most_frr : s.yield_stress * s.radius * s.radius ≤ 1750000000000
-  most_frr = mul-le-mul most_fr ok.radius_most
-
--- with a factor n for the edges, at most 6
-module _ (s : Cylinder) (ok : InLimits s) (n : ℕ) (few : n ≤ 6) where
-  pub edges_nr : n * s.radius ≤ 300000
-  edges_nr = mul-le-mul few ok.radius_most
-
-  pub edges_nf : n * s.yield_stress ≤ 4200
-  edges_nf = mul-le-mul few ok.yield_most
-
-  pub edges_nfr : n * s.yield_stress * s.radius ≤ 210000000
-  edges_nfr = mul-le-mul edges_nf ok.radius_most
-
-  pub edges_nfrr : n * s.yield_stress * s.radius * s.radius ≤ 10500000000000
-  edges_nfrr = mul-le-mul edges_nfr ok.radius_most
-
-  pub edges_ne : n * s.modulus ≤ 1320000
-  edges_ne = mul-le-mul few ok.modulus_most
-
-  pub edges_new : n * s.modulus * s.wall ≤ 26400000000
-  edges_new = mul-le-mul edges_ne ok.wall_most
-
-  pub edges_neww : n * s.modulus * s.wall * s.wall ≤ 528000000000000
-  edges_neww = mul-le-mul edges_new ok.wall_most
-
-  pub edges_newr : n * s.modulus * s.wall * s.radius ≤ 1320000000000000
-  edges_newr = mul-le-mul edges_new ok.radius_most
-
-  pub edges_en : s.modulus * n ≤ 1320000
-  edges_en = mul-le-mul ok.modulus_most few
-
-  pub edges_enn : s.modulus * n * n ≤ 7920000
-  edges_enn = mul-le-mul edges_en few
-
-  pub edges_ennn : s.modulus * n * n * n ≤ 47520000
-  edges_ennn = mul-le-mul edges_enn few
-
-  pub edges_ennnn : s.modulus * n * n * n * n ≤ 285120000
-  edges_ennnn = mul-le-mul edges_ennn few
+  pub most_llff : s.cylinder.length * s.cylinder.length * s.cylinder.yield_stress * s.cylinder.yield_stress ≤ 19600000000000000
+  most_llff = mul-le-mul (mul-le-mul most_ll s.in_limits.yield_most) s.in_limits.yield_most
 
 -- ---- what words multiply to
 

@@ -4,11 +4,11 @@
 
 ghost use Rattle.std.specs.Prelude.{◌≡◌, ◌*◌};
 ghost use Rattle.interval.specs.Around.{Around};
-ghost use Rattle.cylinder.specs.InLimits.{InLimits};
 ghost use Rattle.slenderness_terms.specs.TermsFor.{TwoTerms, ThreeTerms, axial_short_x, axial_short_y, bent_c, bent_d, bent_e, ring_short_x, ring_short_y, ring_long_x, ring_long_y, shear_c, shear_d, shear_e, shear_long_x, shear_long_y, TermsFor};
 
-use cylinder::{Cylinder, Stress};
+use cylinder::{Cylinder, Stress, ValidCylinder};
 use interval::Interval;
+use lengths::Branch;
 
 // Bounds of the terms of a comparison: of the ideal stress c, and e where it has a part with √(w/(200 r)), and of the yield stress d.
 #[derive(Clone, Copy)]
@@ -43,15 +43,17 @@ fn plain(c: Interval, d: Interval) -> Terms
 }
 
 // Axial stress, short.
-fn axial_short(s: Cylinder) -> Terms
-    requires { InLimits s }
-    ensures { TwoTerms (axial_short_x s) (axial_short_y s) result }
+fn axial_short(s: ValidCylinder) -> Terms
+    ensures { TwoTerms (axial_short_x s.cylinder) (axial_short_y s.cylinder) result }
 {
-    let e = s.modulus;
-    let l = s.length;
-    let w = s.wall;
-    let r = s.radius;
-    let v = s.yield_stress;
+    let Cylinder {
+        radius: r,
+        wall: w,
+        length: l,
+        modulus: e,
+        yield_stress: v,
+        ..
+    } = s.cylinder;
     let k = 121 * e * w;
     let m = 400 * l * l + 3 * r * w;
     let p = 16000000 * r * v;
@@ -60,16 +62,19 @@ fn axial_short(s: Cylinder) -> Terms
 }
 
 // Axial stress, long, where Cx falls with the length.
-fn axial_long(s: Cylinder) -> Terms
-    requires { InLimits s }
-    ensures { ThreeTerms (bent_c s) (bent_d s) (bent_e s) result }
+fn axial_long(s: ValidCylinder) -> Terms
+    ensures { ThreeTerms (bent_c s.cylinder) (bent_d s.cylinder) (bent_e s.cylinder) result }
 {
-    let x = s.modulus;
-    let w = s.wall;
-    let r = s.radius;
-    let l = s.length;
-    let v = s.yield_stress;
-    let n = lengths::eta(s.edges);
+    let Cylinder {
+        radius: r,
+        wall: w,
+        length: l,
+        modulus: x,
+        yield_stress: v,
+        edges,
+        ..
+    } = s.cylinder;
+    let n = lengths::eta(edges);
     let k = 121 * x * w;
     let c = (10 * n + 2) * r * k;
     let d = 400000 * n * v * r * r;
@@ -82,16 +87,19 @@ fn axial_long(s: Cylinder) -> Terms
 }
 
 // Ring stress, short.
-fn ring_short(s: Cylinder) -> Terms
-    requires { InLimits s }
-    ensures { TwoTerms (ring_short_x s) (ring_short_y s) result }
+fn ring_short(s: ValidCylinder) -> Terms
+    ensures { TwoTerms (ring_short_x s.cylinder) (ring_short_y s.cylinder) result }
 {
-    let e = s.modulus;
-    let w = s.wall;
-    let r = s.radius;
-    let l = s.length;
-    let v = s.yield_stress;
-    let c = lengths::ring_edges(s.edges);
+    let Cylinder {
+        radius: r,
+        wall: w,
+        length: l,
+        modulus: e,
+        yield_stress: v,
+        edges,
+        ..
+    } = s.cylinder;
+    let c = lengths::ring_edges(edges);
     let k = 23 * c * e * w;
     let p = 20000 * l * v;
     let m = k * w;
@@ -101,16 +109,19 @@ fn ring_short(s: Cylinder) -> Terms
 }
 
 // Ring stress, long.
-fn ring_long(s: Cylinder) -> Terms
-    requires { InLimits s }
-    ensures { TwoTerms (ring_long_x s) (ring_long_y s) result }
+fn ring_long(s: ValidCylinder) -> Terms
+    ensures { TwoTerms (ring_long_x s.cylinder) (ring_long_y s.cylinder) result }
 {
-    let e = s.modulus;
-    let w = s.wall;
-    let r = s.radius;
-    let l = s.length;
-    let v = s.yield_stress;
-    let c = lengths::ring_edges(s.edges);
+    let Cylinder {
+        radius: r,
+        wall: w,
+        length: l,
+        modulus: e,
+        yield_stress: v,
+        edges,
+        ..
+    } = s.cylinder;
+    let c = lengths::ring_edges(edges);
     let m = l * l;
     let n = r * r * r;
     let f = 44 * e * w * w;
@@ -121,15 +132,17 @@ fn ring_long(s: Cylinder) -> Terms
 }
 
 // Shear, short.
-fn shear_short(s: Cylinder) -> Terms
-    requires { InLimits s }
-    ensures { ThreeTerms (shear_c s) (shear_d s) (shear_e s) result }
+fn shear_short(s: ValidCylinder) -> Terms
+    ensures { ThreeTerms (shear_c s.cylinder) (shear_d s.cylinder) (shear_e s.cylinder) result }
 {
-    let e = s.modulus;
-    let w = s.wall;
-    let r = s.radius;
-    let l = s.length;
-    let v = s.yield_stress;
+    let Cylinder {
+        radius: r,
+        wall: w,
+        length: l,
+        modulus: e,
+        yield_stress: v,
+        ..
+    } = s.cylinder;
     let a = 1134 * e * e * r;
     let b = w * w * w * w;
     let f = 25600000000 * r;
@@ -146,14 +159,16 @@ fn shear_short(s: Cylinder) -> Terms
 }
 
 // Shear, long.
-fn shear_long(s: Cylinder) -> Terms
-    requires { InLimits s }
-    ensures { TwoTerms (shear_long_x s) (shear_long_y s) result }
+fn shear_long(s: ValidCylinder) -> Terms
+    ensures { TwoTerms (shear_long_x s.cylinder) (shear_long_y s.cylinder) result }
 {
-    let e = s.modulus;
-    let w = s.wall;
-    let r = s.radius;
-    let v = s.yield_stress;
+    let Cylinder {
+        radius: r,
+        wall: w,
+        modulus: e,
+        yield_stress: v,
+        ..
+    } = s.cylinder;
     let a = 3 * e * e;
     let b = w * w * w;
     let f = 128000000 * v * v;
@@ -161,14 +176,17 @@ fn shear_long(s: Cylinder) -> Terms
     plain(both(a, b), both(f, g))
 }
 
-// The terms for a stress.
-pub fn terms_for(kind: Stress, short: bool, s: Cylinder) -> Terms
-    requires { InLimits s }
-    ensures { TermsFor kind short s result }
+// The terms for a branch.
+pub fn terms_for(b: Branch) -> Terms
+    ensures { TermsFor b.kind b.short b.shell.cylinder result }
 {
-    match kind {
-        Stress::Axial => { if short { axial_short(s) } else { axial_long(s) } }
-        Stress::Ring => { if short { ring_short(s) } else { ring_long(s) } }
-        Stress::Shear => { if short { shear_short(s) } else { shear_long(s) } }
+    let s = b.shell;
+    match (b.kind, b.short) {
+        (Stress::Axial, true) => axial_short(s),
+        (Stress::Axial, false) => axial_long(s),
+        (Stress::Ring, true) => ring_short(s),
+        (Stress::Ring, false) => ring_long(s),
+        (Stress::Shear, true) => shear_short(s),
+        (Stress::Shear, false) => shear_long(s),
     }
 }

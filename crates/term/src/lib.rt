@@ -6,12 +6,12 @@
 ghost use Rattle.std.specs.Prelude.{◌≡◌, ◌-◌, ◌*◌, ◌≤◌, ◌<◌, length};
 ghost use Rattle.wide.specs.Value.{base};
 ghost use Rattle.factors.specs.Product.{prod};
-ghost use Rattle.guess.specs.Roots.{RootTable};
 ghost use Rattle.cylinder.specs.WholeCurves.{reduction1, reduction2, tolerance_factor, safety};
 ghost use Rattle.cylinder.specs.Search.{most};
 ghost use Rattle.term.specs.TermOf.{SmallParts, part_of, factor1, factor2, reduced_of, factor_of, term_of, power_of};
 
 use cylinder::Stress;
+use guess::Roots;
 use millionths::Power;
 
 // The branch of the reduction factor κ.
@@ -36,211 +36,183 @@ pub struct Branches {
     pub far: bool,
 }
 
-// Two factors of a product.
+// The slenderness k/q.
 #[derive(Clone, Copy)]
-struct Two {
-    a: u64,
-    b: u64,
+pub struct Point {
+    pub k: u64,
+    pub q: u64,
+    pub ghost small: { (k < base) × (q ≤ 200000000) },
 }
 
-// a - b, 0 where that is negative.
-fn less(a: u64, b: u64) -> u64
-    ensures { result ≡ a - b }
-{
-    if b < a { a - b } else { 0 }
+// A stress of num/den kN/m².
+#[derive(Clone, Copy)]
+pub struct Load {
+    pub num: u64,
+    pub den: u64,
+    pub ghost small: { SmallParts num den },
 }
 
-// κ1, for ring stress and shear: its numerator.
-fn kappa1_above(part: Part, k: u64, q: u64) -> Two
-    requires { (k < base) × (q ≤ 200000000) }
-    ensures { result.a * result.b ≡ (reduction1 (part_of part)).num k q }
+// Where a resistance is read off the curves: at a slenderness, in the branches where it lies, with the imperfection in
+// thousandths over the permitted one.
+#[derive(Clone, Copy)]
+pub struct Sample {
+    pub point: Point,
+    pub branches: Branches,
+    pub excess: u64,
+    pub ghost tolerated: { excess ≤ 1000 },
+}
+
+// A ratio of products: what stands above the line, and what stands below it.
+#[derive(Clone, Copy)]
+pub struct Ratio<T> {
+    pub above: T,
+    pub below: T,
+}
+
+// κ1, for ring stress and shear: two factors above and two below.
+fn kappa1(part: Part, p: Point) -> Ratio<(u64, u64)>
+    ensures above { result.above.0 * result.above.1 ≡ (reduction1 (part_of part)).num p.k p.q }
+    ensures below { result.below.0 * result.below.1 ≡ (reduction1 (part_of part)).den p.k p.q }
 {
+    let Point { k, q } = p;
     match part {
-        Part::Plateau => Two { a: 1, b: 1 },
-        Part::Line => Two {
-            a: less(1274 * q, 686 * k),
-            b: 1,
+        Part::Plateau | Part::Cubic => Ratio {
+            above: (1, 1),
+            below: (1, 1),
         },
-        Part::Cubic => Two { a: 1, b: 1 },
-        Part::Quadratic => Two { a: 65 * q, b: q },
+        Part::Line => Ratio {
+            above: ((1274 * q).saturating_sub(686 * k), 1),
+            below: (1000, q),
+        },
+        Part::Quadratic => Ratio {
+            above: (65 * q, q),
+            below: (100 * k, k),
+        },
     }
 }
 
-// κ1: its denominator.
-fn kappa1_below(part: Part, k: u64, q: u64) -> Two
-    requires { (k < base) × (q ≤ 200000000) }
-    ensures { result.a * result.b ≡ (reduction1 (part_of part)).den k q }
+// κ2, for axial stress.
+#[tactic(auto, using(crate::proofs::Products::cube))]
+fn kappa2(part: Part, p: Point) -> Ratio<(u64, u64)>
+    ensures above { result.above.0 * result.above.1 ≡ (reduction2 (part_of part)).num p.k p.q }
+    ensures below { result.below.0 * result.below.1 ≡ (reduction2 (part_of part)).den p.k p.q }
 {
+    let Point { k, q } = p;
     match part {
-        Part::Plateau => Two { a: 1, b: 1 },
-        Part::Line => Two { a: 1000, b: q },
-        Part::Cubic => Two { a: 1, b: 1 },
-        Part::Quadratic => Two { a: 100 * k, b: k },
+        Part::Plateau => Ratio {
+            above: (1, 1),
+            below: (1, 1),
+        },
+        Part::Line => Ratio {
+            above: ((1233 * q).saturating_sub(933 * k), 1),
+            below: (1000, q),
+        },
+        Part::Cubic => Ratio {
+            above: (30 * q, q * q),
+            below: (100 * k, k * k),
+        },
+        Part::Quadratic => Ratio {
+            above: (20 * q, q),
+            below: (100 * k, k),
+        },
     }
 }
 
-// κ2, for axial stress: its numerator.
-fn kappa2_above(part: Part, k: u64, q: u64) -> Two
-    requires { (k < base) × (q ≤ 200000000) }
-    ensures { result.a * result.b ≡ (reduction2 (part_of part)).num k q }
-{
-    match part {
-        Part::Plateau => Two { a: 1, b: 1 },
-        Part::Line => Two {
-            a: less(1233 * q, 933 * k),
-            b: 1,
-        },
-        Part::Cubic => Two {
-            a: 30 * q,
-            b: q * q,
-        },
-        Part::Quadratic => Two { a: 20 * q, b: q },
-    }
-}
-
-// κ2: its denominator.
-fn kappa2_below(part: Part, k: u64, q: u64) -> Two
-    requires { (k < base) × (q ≤ 200000000) }
-    ensures { result.a * result.b ≡ (reduction2 (part_of part)).den k q }
-{
-    match part {
-        Part::Plateau => Two { a: 1, b: 1 },
-        Part::Line => Two { a: 1000, b: q },
-        Part::Cubic => Two {
-            a: 100 * k,
-            b: k * k,
-        },
-        Part::Quadratic => Two { a: 100 * k, b: k },
-    }
-}
-
-// The tolerance at an excess of e thousandths over the permitted imperfection: its numerator.
-fn tolerance_above(long: bool, e: u64, k: u64, q: u64) -> u64
-    requires { (e ≤ 1000) × (k < base) × (q ≤ 200000000) }
-    ensures { result ≡ (tolerance_factor long e).num k q }
+// The tolerance at an excess of e thousandths over the permitted imperfection.
+fn tolerance(long: bool, e: u64, p: Point) -> Ratio<u64>
+    requires { e ≤ 1000 }
+    ensures above { result.above ≡ (tolerance_factor long e).num p.k p.q }
+    ensures below { result.below ≡ (tolerance_factor long e).den p.k p.q }
 {
     if long {
-        2000 - e
+        Ratio {
+            above: 2000 - e,
+            below: 2000,
+        }
     } else {
-        less(3000 * q, e * k)
+        Ratio {
+            above: (3000 * p.q).saturating_sub(e * p.k),
+            below: 3000 * p.q,
+        }
     }
 }
 
-// The tolerance: its denominator.
-fn tolerance_below(long: bool, e: u64, k: u64, q: u64) -> u64
-    requires { q ≤ 200000000 }
-    ensures { result ≡ (tolerance_factor long e).den k q }
-{
-    if long { 2000 } else { 3000 * q }
-}
-
-// 11/10 over the partial factor for axial stress: its numerator.
-fn safety_above(near: bool, far: bool, k: u64, q: u64) -> u64
-    requires { q ≤ 200000000 }
-    ensures { result ≡ (safety near far).num k q }
+// 11/10 over the partial factor for axial stress.
+fn safety(near: bool, far: bool, p: Point) -> Ratio<u64>
+    ensures above { result.above ≡ (safety near far).num p.k p.q }
+    ensures below { result.below ≡ (safety near far).den p.k p.q }
 {
     if near {
-        1
+        Ratio { above: 1, below: 1 }
+    } else if far {
+        Ratio {
+            above: 22,
+            below: 29,
+        }
     } else {
-        if far { 22 } else { 7000 * q }
+        Ratio {
+            above: 7000 * p.q,
+            below: 6682 * p.q + 1272 * p.k,
+        }
     }
 }
 
-// 11/10 over the partial factor: its denominator.
-fn safety_below(near: bool, far: bool, k: u64, q: u64) -> u64
-    requires { (k < base) × (q ≤ 200000000) }
-    ensures { result ≡ (safety near far).den k q }
+// The factors of a reduction factor with its tolerance.
+fn tolerated(r: Ratio<(u64, u64)>, at: Sample) -> Ratio<[u64; 3]>
+    ensures above { prod result.above ≡ r.above.0 * r.above.1 * (tolerance_factor at.branches.long at.excess).num at.point.k at.point.q }
+    ensures below { prod result.below ≡ r.below.0 * r.below.1 * (tolerance_factor at.branches.long at.excess).den at.point.k at.point.q }
 {
-    if near {
-        1
-    } else {
-        if far { 29 } else { 6682 * q + 1272 * k }
+    let t = tolerance(at.branches.long, at.excess, at.point);
+    Ratio {
+        above: [r.above.0, r.above.1, t.above],
+        below: [r.below.0, r.below.1, t.below],
     }
 }
 
-// The factors of the resistance to ring stress and shear at the slenderness k/q: their numerators.
-fn first_above(b: Branches, e: u64, k: u64, q: u64) -> [u64; 4]
-    requires { (e ≤ 1000) × (k < base) × (q ≤ 200000000) }
-    ensures { prod result ≡ (factor1 b e).num k q }
+// The factors of the resistance to ring stress and shear.
+fn first(at: Sample) -> Ratio<[u64; 3]>
+    ensures above { prod result.above ≡ (factor1 at.branches at.excess).num at.point.k at.point.q }
+    ensures below { prod result.below ≡ (factor1 at.branches at.excess).den at.point.k at.point.q }
 {
-    let part = b.part;
-    let r = kappa1_above(part, k, q);
-    [r.a, r.b, tolerance_above(b.long, e, k, q), 1]
+    tolerated(kappa1(at.branches.part, at.point), at)
 }
 
-// The same: their denominators.
-fn first_below(b: Branches, e: u64, k: u64, q: u64) -> [u64; 4]
-    requires { (e ≤ 1000) × (k < base) × (q ≤ 200000000) }
-    ensures { prod result ≡ (factor1 b e).den k q }
+// The factors of κ2 with its tolerance.
+pub fn reduced(at: Sample) -> Ratio<[u64; 3]>
+    ensures above { prod result.above ≡ (reduced_of at.branches at.excess).num at.point.k at.point.q }
+    ensures below { prod result.below ≡ (reduced_of at.branches at.excess).den at.point.k at.point.q }
 {
-    let part = b.part;
-    let r = kappa1_below(part, k, q);
-    [r.a, r.b, tolerance_below(b.long, e, k, q), 1]
+    tolerated(kappa2(at.branches.part, at.point), at)
 }
 
-// The factors of the resistance to axial stress at the slenderness k/q: their numerators.
-fn second_above(b: Branches, e: u64, k: u64, q: u64) -> [u64; 4]
-    requires { (e ≤ 1000) × (k < base) × (q ≤ 200000000) }
-    ensures { prod result ≡ (factor2 b e).num k q }
+// x and y before the factors of f.
+pub fn with(x: u64, y: u64, f: [u64; 3]) -> [u64; 5]
+    ensures { (prod result ≡ x * y * prod f) × (length result ≡ 5) }
 {
-    let part = b.part;
-    let r = kappa2_above(part, k, q);
-    let t = tolerance_above(b.long, e, k, q);
-    [r.a, r.b, t, safety_above(b.near, b.far, k, q)]
+    [x, y, f[0], f[1], f[2]]
 }
 
-// The same: their denominators.
-fn second_below(b: Branches, e: u64, k: u64, q: u64) -> [u64; 4]
-    requires { (e ≤ 1000) × (k < base) × (q ≤ 200000000) }
-    ensures { prod result ≡ (factor2 b e).den k q }
-{
-    let part = b.part;
-    let r = kappa2_below(part, k, q);
-    let t = tolerance_below(b.long, e, k, q);
-    [r.a, r.b, t, safety_below(b.near, b.far, k, q)]
-}
-
-// x y times κ2 with its tolerance at the slenderness k/q: the factors of its numerator.
-pub fn reduced_above(b: Branches, e: u64, k: u64, q: u64, x: u64, y: u64) -> [u64; 5]
-    requires { (e ≤ 1000) × (k < base) × (q ≤ 200000000) }
-    ensures { (prod result ≡ x * y * (reduced_of b e).num k q) × (length result ≡ 5) }
-{
-    let part = b.part;
-    let r = kappa2_above(part, k, q);
-    [x, y, r.a, r.b, tolerance_above(b.long, e, k, q)]
-}
-
-// x y times it: those of its denominator.
-pub fn reduced_below(b: Branches, e: u64, k: u64, q: u64, x: u64, y: u64) -> [u64; 5]
-    requires { (e ≤ 1000) × (k < base) × (q ≤ 200000000) }
-    ensures { (prod result ≡ x * y * (reduced_of b e).den k q) × (length result ≡ 5) }
-{
-    let part = b.part;
-    let r = kappa2_below(part, k, q);
-    [x, y, r.a, r.b, tolerance_below(b.long, e, k, q)]
-}
-
-// The factors of the resistance: their numerators.
-fn above(stress: Stress, b: Branches, e: u64, k: u64, q: u64) -> [u64; 4]
-    requires { (e ≤ 1000) × (k < base) × (q ≤ 200000000) }
-    ensures { prod result ≡ (factor_of stress b e).num k q }
+// The factors of the resistance to a stress, with x above and y below.
+fn resistance(stress: Stress, at: Sample, x: u64, y: u64) -> Ratio<[u64; 5]>
+    ensures above { prod result.above ≡ x * (factor_of stress at.branches at.excess).num at.point.k at.point.q }
+    ensures below { prod result.below ≡ y * (factor_of stress at.branches at.excess).den at.point.k at.point.q }
 {
     match stress {
-        Stress::Axial => second_above(b, e, k, q),
-        Stress::Ring => first_above(b, e, k, q),
-        Stress::Shear => first_above(b, e, k, q),
-    }
-}
-
-// The factors of the resistance: their denominators.
-fn below(stress: Stress, b: Branches, e: u64, k: u64, q: u64) -> [u64; 4]
-    requires { (e ≤ 1000) × (k < base) × (q ≤ 200000000) }
-    ensures { prod result ≡ (factor_of stress b e).den k q }
-{
-    match stress {
-        Stress::Axial => second_below(b, e, k, q),
-        Stress::Ring => first_below(b, e, k, q),
-        Stress::Shear => first_below(b, e, k, q),
+        Stress::Axial => {
+            let r = reduced(at);
+            let s = safety(at.branches.near, at.branches.far, at.point);
+            Ratio {
+                above: with(x, s.above, r.above),
+                below: with(y, s.below, r.below),
+            }
+        }
+        Stress::Ring | Stress::Shear => {
+            let r = first(at);
+            Ratio {
+                above: with(x, 1, r.above),
+                below: with(y, 1, r.below),
+            }
+        }
     }
 }
 
@@ -249,31 +221,16 @@ fn power_for(stress: Stress) -> Power
     ensures { result ≡ power_of stress }
 {
     match stress {
-        Stress::Axial => Power::FiveQuarters,
-        Stress::Ring => Power::FiveQuarters,
+        Stress::Axial | Stress::Ring => Power::FiveQuarters,
         Stress::Shear => Power::ThreeSquares,
     }
 }
 
-// The low bound of a stress's term at the slenderness k/q: how many millionths it reaches, up to 2,000,000.
-// The stress is num/den kN/m², the yield stress fy N/mm², the imperfection e thousandths over the permitted one.
-pub fn low(
-    roots: &[u8; 1024],
-    stress: Stress,
-    b: Branches,
-    fy: u64,
-    num: u64,
-    den: u64,
-    e: u64,
-    k: u64,
-    q: u64,
-) -> u64
-    requires { (fy ≤ 700) × (SmallParts num den) × (e ≤ 1000) × (k < base) × (q ≤ 200000000) × RootTable roots.now }
-    ensures { result ≡ most (term_of stress b fy num den e) k q }
+// The low bound of a stress's term, the yield stress fy in N/mm²: how many millionths it reaches, up to 2,000,000.
+pub fn low(roots: &Roots, stress: Stress, at: Sample, fy: u64, load: Load) -> u64
+    requires { fy ≤ 700 }
+    ensures { result ≡ most (term_of stress at.branches fy load.num load.den at.excess) at.point.k at.point.q }
 {
-    let f = above(stress, b, e, k, q);
-    let x = 10000 * fy * den;
-    let g = below(stress, b, e, k, q);
-    let y = 11 * num;
-    millionths::reached(roots, power_for(stress), f, x, g, y)
+    let r = resistance(stress, at, 10000 * fy * load.den, 11 * load.num);
+    millionths::reached(roots, power_for(stress), &r.above, &r.below)
 }

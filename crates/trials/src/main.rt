@@ -32,16 +32,16 @@ fn list(rt: &HostRuntime, file: &mut File) {
     let mut sheet = [0u8; 65536];
     let mut listing = [0u8; 24616];
     let n = read_full(file, &mut sheet);
-    let outcome = sheet::run(&sheet[..n], &mut listing);
-    let refusal = outcome.refusal;
-    let length = outcome.length;
-    if refusal == 0 {
-        put(rt, &listing[..length]);
-    } else {
-        let _ = println!(rt; "(batch refused {refusal})");
+    match sheet::run(&sheet[..n], &mut listing) {
+        Ok(listed) => put(rt, &listing[..listed.length]),
+        Err(refusal) => {
+            let number = u64::from(refusal);
+            let _ = println!(rt; "(batch refused {number})");
+        }
     }
 }
 
+// This, `fail` and `open` stand in the other program too: only a library could be shared, and `fail` takes memory, which no library here does.
 // The system's words for an error, without the number that std puts behind them.
 fn words_of(text: &str) -> &str {
     match text.split_once(" (os error ") {

@@ -1,8 +1,8 @@
 -- How the code finds the stress: what the three rounded numbers say of it. Assumes nothing.
 use mathlib.Core.Path.{◌≡◌, ap, subst, ◌∙◌}
-use mathlib.Core.Bool.{true, false}
+use mathlib.Core.Bool.{Bool, true, false}
 use Prim.Native.Nat.{ℕ, zero, suc, ◌+◌, ◌*◌, ◌-◌, ◌^◌, ◌≤◌, ◌<◌}
-use native.Mathlib.Nat.{mul-pos, mul-le-mul_left, mul-le-mul_right, mul-lt-mul_of_pos_left, pow-le-pow_left, pow-lt-pow_left, le_trans, lt_of_lt_of_le, one-le-pow}
+use native.Mathlib.Nat.{mul-pos, mul-le-mul, mul-le-mul_left, mul-le-mul_right, mul-lt-mul_of_pos_left, pow-le-pow_left, pow-lt-pow_left, le_trans, lt_of_lt_of_le, one-le-pow}
 use native.Mathlib.Decide.{dec_lt}
 use native.Mathlib.Omega.{arith}
 use lib.Dec.{leb, lit<}
@@ -12,13 +12,16 @@ use Rattle.algebra.proofs.Powers.{mul_pow}
 use Rattle.algebra.proofs.Tests.{and_true, and_rest}
 use Rattle.roots.specs.Largest.{test, largest}
 use Rattle.roots.proofs.Largest.{largest_edge}
+use Rattle.std.specs.Int.{from_bool, div_ceil}
 use Rattle.cylinder.specs.declared.Cylinder.{Cylinder}
+use Rattle.cylinder.specs.declared.ValidCylinder.{ValidCylinder}
 use Rattle.cylinder.specs.InLimits.{InLimits}
 use Rattle.cylinder.proofs.Limits.{sound}
-use Rattle.wind.specs.Wind.{is_enough, WindStress}
+use Rattle.wind.specs.Wind.{is_enough, wind_stress, WindStress}
 use Rattle.wind.specs.WholeWind.{by_cap, above, below, root_within, rest, enough, RoundedUp}
 use Rattle.wind.proofs.Agree.{or_right, above_pos, wind_pos, cap_enough, enough_agrees}
-use Rattle.wind.proofs.Rows.{load_most}
+use Rattle.wind.proofs.Rows.{load_most, rounded_up}
+use Rattle.wind.proofs.Stress.{found}
 
 -- ---- the root in eights
 
@@ -122,20 +125,20 @@ module _
     unfolding enough
     passed k h = enough_agrees s (sound s pre.0) w v k ∙ or_right (by_cap s w v k) (root_within s w (rest s w v k)) h
 
-    pub top_found : top ≤ lo → WindStress s w v top
+    top_found : top ≤ lo → WindStress s w v top
     top_found le =
         record {
           at_least = cap_enough s (sound s pre.0) w v top (le-leb ((5 + 3 * v) * (s.radius * w)) (top * (25 * s.wall)) is-top.0);
           no_less = λ k lt. missed_below k lt (omega arith);
         }
 
-    pub lo_found : lo < top → root_within s w (rest s w v lo) ≡ true → WindStress s w v lo
+    lo_found : lo < top → root_within s w (rest s w v lo) ≡ true → WindStress s w v lo
     lo_found lt h = record { at_least = passed lo h; no_less = λ k less. missed_below k (omega arith) less }
 
     not_last : lo < top → p < 4294967295
     not_last lt = elim (dec_lt p 4294967295) [
       | yes h ↦ h
-      | no h ↦ absurd (far (s.radius * w) v s.wall lo (load_most s w v pre) (short_of _ _ top lo is-top lt) (omega (arith, root.most)))
+      | no h ↦ absurd (far (s.radius * w) v s.wall lo (load_most s w pre.0 pre.1) (short_of _ _ top lo is-top lt) (omega (arith, root.most)))
     ]
 
     module _ (hi : ℕ) (is-hi : RoundedUp ((23 + 30 * v) * (s.radius * w) + 8 * p + 8) (250 * s.wall) hi) (lt : lo < top) where
@@ -144,10 +147,10 @@ module _
           le-leb (above s w) (below s * rest s w v hi ^ 4)
           (root_full (above s w) (below s) ((23 + 30 * v) * (s.radius * w)) (250 * s.wall) p hi (root.passed (not_last lt)) is-hi.0)
 
-      pub same_found : lo ≡ hi → WindStress s w v lo
+      same_found : lo ≡ hi → WindStress s w v lo
       same_found e = lo_found lt (rw e hi_within)
 
-      pub hi_found : (lo ≡ hi → ⊥) → root_within s w (rest s w v lo) ≡ false → WindStress s w v hi
+      hi_found : (lo ≡ hi → ⊥) → root_within s w (rest s w v lo) ≡ false → WindStress s w v hi
       hi_found apart h = record { at_least = passed hi hi_within; no_less = below_hi }
         where
           one_more : hi ≤ lo + 1
@@ -158,3 +161,59 @@ module _
             | yes l ↦ missed_below k (omega arith) l
             | no n ↦ subst (λ (j : ℕ). is_enough s w v j ≡ false) (omega (arith, one_more)) (missed lo lt h)
           ]
+
+-- ---- what the code answers
+
+module _
+    (shell : ValidCylinder)
+    (w : ℕ)
+    (vented : Bool)
+    (v p top lo : ℕ)
+    (gust : w ≤ 10000)
+    (is-v : v ≡ from_bool vented)
+    (is-p : (p ≡ largest 4 4294967295 (4096 * below shell.cylinder) (above shell.cylinder w)) × (p ≤ 4294967295))
+    (is-top : top ≡ div_ceil ((5 + 3 * v) * (shell.cylinder.radius * w)) (25 * shell.cylinder.wall))
+    (is-lo : lo ≡ div_ceil ((23 + 30 * v) * (shell.cylinder.radius * w) + 8 * p) (250 * shell.cylinder.wall))
+  where
+    flag : v ≤ 1
+    flag = rw is-v (bit vented)
+      where
+        bit : (b : Bool) → from_bool b ≤ 1
+        bit true = omega arith
+        bit false = omega arith
+
+    abbrev pre : InLimits shell.cylinder × (w ≤ 10000) × (v ≤ 1)
+    pre = (shell.in_limits, gust, flag)
+
+    top-up : RoundedUp ((5 + 3 * v) * (shell.cylinder.radius * w)) (25 * shell.cylinder.wall) top
+    top-up = rounded_up (omega arith) is-top
+
+    lo-up : RoundedUp ((23 + 30 * v) * (shell.cylinder.radius * w) + 8 * p) (250 * shell.cylinder.wall) lo
+    lo-up = rounded_up (omega arith) is-lo
+
+    is-eighths : Eighths (above shell.cylinder w) (below shell.cylinder) p
+    is-eighths = eighths _ _ p is-p.0
+
+    answered : {m : ℕ} → WindStress shell.cylinder w v m → (m ≡ wind_stress shell.cylinder w (from_bool vented)) × (m ≤ 40000)
+    answered is = let f = found shell.cylinder w v pre is in (f.0 ∙ ap (wind_stress shell.cylinder w) is-v, f.1)
+
+    pub lo_fits : lo * (250 * shell.cylinder.wall) < 18446744073709551616
+    lo_fits = omega (arith, is-p.1, lo-up.1, mul-le-mul most (load_most shell.cylinder w shell.in_limits gust))
+      where
+        most : 23 + 30 * v ≤ 53
+        most = omega (arith, flag)
+
+    pub by_the_cap : top ≤ lo → (top ≡ wind_stress shell.cylinder w (from_bool vented)) × (top ≤ 40000)
+    by_the_cap le = answered (top_found shell.cylinder w v p top lo pre is-eighths top-up lo-up le)
+
+    pub by_the_root : lo < top → root_within shell.cylinder w (lo * (250 * shell.cylinder.wall) - (23 + 30 * v) * (shell.cylinder.radius * w)) ≡ true
+        → (lo ≡ wind_stress shell.cylinder w (from_bool vented)) × (lo ≤ 40000)
+    by_the_root lt h = answered (lo_found shell.cylinder w v p top lo pre is-eighths top-up lo-up lt h)
+
+    module _ (hi : ℕ) (is-hi : hi ≡ div_ceil ((23 + 30 * v) * (shell.cylinder.radius * w) + 8 * p + 8) (250 * shell.cylinder.wall)) (lt : lo < top) where
+      pub by_either : lo ≡ hi → (lo ≡ wind_stress shell.cylinder w (from_bool vented)) × (lo ≤ 40000)
+      by_either e = answered (same_found shell.cylinder w v p top lo pre is-eighths top-up lo-up hi (rounded_up (omega arith) is-hi) lt e)
+
+      pub by_the_next : (lo ≡ hi → ⊥) → root_within shell.cylinder w (lo * (250 * shell.cylinder.wall) - (23 + 30 * v) * (shell.cylinder.radius * w)) ≡ false
+          → (hi ≡ wind_stress shell.cylinder w (from_bool vented)) × (hi ≤ 40000)
+      by_the_next apart h = answered (hi_found shell.cylinder w v p top lo pre is-eighths top-up lo-up hi (rounded_up (omega arith) is-hi) lt apart h)

@@ -2,70 +2,68 @@
 // numbers, and an exact comparison decides between them.
 #![tactic(auto)]
 
-ghost use Rattle.std.specs.Prelude.{◌≡◌, ◌+◌, ◌*◌, ◌≤◌, ◌<◌};
+ghost use Rattle.std.specs.Prelude.{◌≡◌, ◌+◌, ◌*◌, ◌≤◌, ◌<◌, length};
+ghost use Rattle.std.specs.Int.{from_bool};
+ghost use Rattle.factors.specs.Product.{prod};
 ghost use Rattle.roots.specs.Largest.{largest};
-ghost use Rattle.cylinder.specs.InLimits.{InLimits};
 ghost use Rattle.wind.specs.Wind.{wind_stress};
-ghost use Rattle.wind.specs.WholeWind.{above, below, root_within, RoundedUp};
+ghost use Rattle.wind.specs.WholeWind.{above, below, root_within};
 
-use cylinder::Cylinder;
-use guess::Degree;
+use cylinder::{Cylinder, ValidCylinder};
+use guess::{Degree, Roots};
 
-// n/d, rounded up.
-fn up(n: u64, d: u64) -> u64
-    requires { (0 < d) × (n + d < 18446744073709551616) }
-    ensures { RoundedUp n d result }
+// The fourth power of the root is a fraction: the factors of its numerator.
+fn above(s: Cylinder, gust: u64) -> [u64; 14]
+    ensures { (prod result ≡ above s gust) × (length result ≡ 14) }
 {
-    (n + d - 1) / d
+    let c = lengths::ring_edges(s.edges);
+    let r = s.radius;
+    [279841, c, c, r, r, r, r, r, r, r, gust, gust, gust, gust]
 }
 
 // An eighth of the root, rounded down: 4096 is 8⁴.
 fn root_part(s: Cylinder, gust: u64) -> u64
     ensures { (result ≡ largest 4 4294967295 (4096 * below s) (above s gust)) × (result ≤ 4294967295) }
 {
-    let c = lengths::ring_edges(s.edges);
     let l = s.length;
-    let r = s.radius;
     let f = [3276800, l, l, s.wall];
-    let h = [279841, c, c, r, r, r, r, r, r, r, gust, gust, gust, gust];
-    let roots = guess::root_table();
-    root_search::root(&roots, &f, &h, Degree::Four, 4294967295)
+    let h = above(s, gust);
+    root_search::root(&Roots::new(), &f, &h, Degree::Four, 4294967295)
 }
 
 // Whether the root is at most d, exactly.
 fn root_at_most(s: Cylinder, gust: u64, d: u64) -> bool
     ensures { result ≡ root_within s gust d }
 {
-    let c = lengths::ring_edges(s.edges);
     let l = s.length;
-    let r = s.radius;
-    let f = [279841, c, c, r, r, r, r, r, r, r, gust, gust, gust, gust];
+    let f = above(s, gust);
     let g = [800, l, l, s.wall, d, d, d, d];
     factors::at_most(&f, &g)
 }
 
-// The ring stress in kN/m² of a gust pressure in N/m²; vented is 1 where the shell is open or vented, else 0. r/t is 200 r over
-// the wall, so by the cap of δ the stress is (5 + 3 v) r w over 25 walls, and else (23 + 30 v) r w and the root over 250.
-pub fn ring_stress(s: Cylinder, gust: u64, vented: u64) -> u64
-    requires { InLimits s × (gust ≤ 10000) × (vented ≤ 1) }
-    ensures value { result ≡ wind_stress s gust vented }
+// The ring stress in kN/m² of a gust pressure in N/m² on a shell that is closed, or open or vented. r/t is 200 r over the wall, so
+// with v = 1 where it is vented, else 0, the stress is by the cap of δ (5 + 3 v) r w over 25 walls, and else (23 + 30 v) r w
+// and the root over 250.
+pub fn ring_stress(shell: ValidCylinder, gust: u64, vented: bool) -> u64
+    requires { gust ≤ 10000 }
+    ensures value { result ≡ wind_stress shell.cylinder gust (from_bool vented) }
     ensures upper_bound { result ≤ 40000 }
 {
+    let s = shell.cylinder;
+    let v = u64::from(vented);
     let load = s.radius * gust;
-    let top = up((5 + 3 * vented) * load, 25 * s.wall);
+    let top = ((5 + 3 * v) * load).div_ceil(25 * s.wall);
     let per = 250 * s.wall;
-    let rootless = (23 + 30 * vented) * load;
+    let rootless = (23 + 30 * v) * load;
     let root = 8 * root_part(s, gust);
-    let lo = up(rootless + root, per);
+    let lo = (rootless + root).div_ceil(per);
     if top <= lo {
         return top;
     }
-    let hi = up(rootless + root + 8, per);
-    if lo == hi {
-        return lo;
+    let hi = (rootless + root + 8).div_ceil(per);
+    if lo == hi || root_at_most(s, gust, lo * per - rootless) {
+        lo
+    } else {
+        hi
     }
-    if root_at_most(s, gust, lo * per - rootless) {
-        return lo;
-    }
-    hi
 }

@@ -6,45 +6,41 @@ use native.Mathlib.Omega.{arith}
 use mathlib.Core.Bool.{true, false, ◌&&◌, ◌||◌}
 use mathlib.Core.Logic.{◌↔◌, ◌⊎◌, inl, inr}
 use mathlib.Core.List.{List, [], ◌∷◌, ◌++◌, append-nil}
-use lib.ListN.{length, length-append, length-take}
+use lib.ListN.{length, length-append}
 use lib.Dec.{leb, eqb}
 use borrow.Author.Tests.{leb-true, le-leb, lt-leb, eqb-true}
 use Rattle.pressure.specs.declared.Order.{Order}
-use Rattle.pressure.specs.declared.Order.TheVariants.{PressureFirst}
 use Rattle.text.specs.Bytes.{ascii, decimal, lines}
 use Rattle.text.specs.Slices.{put}
 use Rattle.text.proofs.Laws.{decimal_length, decimal_least, decimal_some, put_all}
 use Rattle.algebra.proofs.Tests.{and_true, both_true, missed_left, missed_right, or_true, clash}
 use Rattle.format.specs.Texts.{Each}
 use Rattle.listing.proofs.Lines.{plain, plain_append, lines_ended, decimal_plain}
+use Rattle.std.specs.Prelude.{Option, Some, None, Ok, Err}
+use Rattle.answer.specs.declared.Refusal.{Refusal}
+use Rattle.answer.specs.Answers.{Answer, refusal_number}
+use Rattle.answer.proofs.Numbers.{refusal_range}
 use Rattle.answer.specs.Checks.{FirstBroken, AllPassed}
-use Rattle.answer.specs.declared.Answer.{Answer}
 use Rattle.answer.specs.declared.Judgement.{Judgement}
-use Rattle.answer.specs.Right.{refused, judged}
+use Rattle.answer.specs.Right.{judged}
 use Rattle.answer.specs.Answering.{refusal_by}
 use Rattle.answer.proofs.Checks.{first_or_lem, first_broken, all_passed, refusal_broken, refusal_none}
 use Rattle.record.specs.declared.Wall.{Wall}
 use Rattle.record.specs.declared.Ring.{Ring}
 use Rattle.record.specs.declared.Ring.TheVariants.{Stress, Wind}
 use Rattle.record.specs.declared.Group.{Group}
-use Rattle.record.specs.declared.Inner.{Inner}
 use Rattle.record.specs.Limits.{dimensions, material, stresses, ring_in_range, wind_allowed, pressure_allowed}
 use Rattle.record.proofs.Checks.{Ranges, ranges}
 use Rattle.record.proofs.Wind.{wind_limits}
-use Rattle.cases.specs.declared.Cases.{Cases}
 use Rattle.cases.specs.Cases.{LoadCases, alone, every, case_checks, RightCases, At}
-use Rattle.cases.specs.Answering.{load_cases, no_group, cases_answer}
-use Rattle.cases.proofs.Right.{cases_range, cases_above}
+use Rattle.cases.specs.Answering.{no_group, cases_answer}
 use Rattle.reading.specs.Text.{wall_text, ring_text, group_text, groups_text, SmallRing, SmallGroup, Small, text, text_without_shortfall, Spells, inner_text, SmallInner}
 use Rattle.reading.specs.Answers.{RightLine, too_long, not_form, of_cases}
 use Rattle.reading.specs.Reading.{form_of}
-use Rattle.reading.specs.Reading as Form
 use Rattle.reading.specs.Answering.{answer_to}
 use Rattle.reading.proofs.Inverse.{read_text, spells_once, spells_some, spells_few}
 use Rattle.reading.proofs.Answers.{answer_read}
-use Rattle.writer.specs.declared.Written.{Written}
-use Rattle.writer.specs.declared.Written.TheVariants.{Put, Refused}
-use Rattle.writer.specs.Writing.{count_allowed, writer_checks, line_of, starting_with, Writes, refuses, puts, written_number}
+use Rattle.writer.specs.Writing.{Written, count_allowed, writer_checks, line_of, starting_with, Writes, refuses, puts, written_number}
 use Rattle.writer.specs.Writer.{spaced_group, writing}
 use Rattle.writer.proofs.Puts.{wall_length, wind_length, group_length, line_length, pressure_length}
 
@@ -52,10 +48,10 @@ use Rattle.writer.proofs.Puts.{wall_length, wind_length, group_length, line_leng
 
 pub writes : (c : LoadCases) (out : List ℕ) → Writes c out (writing c out).1 (writing c out).0
 unfolding writing
-writes c out = go (first_or_lem (λ n. (Refused n, out)) (Put (length (line_of c)), starting_with (line_of c) out) (writer_checks (length out) c))
+writes c out = go (first_or_lem (λ r. (Err r, out)) (Ok (length (line_of c)), starting_with (line_of c) out) (writer_checks (length out) c))
   where
-    go : {w : Written × List ℕ} → ((n : ℕ) × (FirstBroken (writer_checks (length out) c) n × (w ≡ (Refused n, out))))
-        ⊎ (AllPassed (writer_checks (length out) c) × (w ≡ (Put (length (line_of c)), starting_with (line_of c) out))) → Writes c out w.1 w.0
+    go : {w : Written × List ℕ} → ((n : Refusal) × (FirstBroken (writer_checks (length out) c) n × (w ≡ (Err n, out))))
+        ⊎ (AllPassed (writer_checks (length out) c) × (w ≡ (Ok (length (line_of c)), starting_with (line_of c) out))) → Writes c out w.1 w.0
     go (inl (n, (f, e))) = rw e (refuses n f refl)
     go (inr (all, e)) = rw e (puts all refl)
 
@@ -131,9 +127,9 @@ ring_small : (r : Ring) → ring_in_range r ≡ true → wind_allowed r ≡ true
 ring_small (Stress σφ) h g = omega (arith, leb-true σφ 700000 h)
 ring_small (Wind w v) h g = let (most, vented) = wind_limits w v g in (omega (arith, most), omega (arith, vented))
 
-inner_small : (i : Inner) → pressure_allowed i ≡ true → SmallInner i
-inner_small Inner.Missing h = tt
-inner_small (Inner.Given p) h = omega (arith, leb-true p 1000000 h)
+inner_small : (i : Option ℕ) → pressure_allowed i ≡ true → SmallInner i
+inner_small None h = tt
+inner_small (Some p) h = omega (arith, leb-true p 1000000 h)
 
 groups_small : (gs : List Group) → Each Allowed gs → Each SmallGroup gs
 groups_small [] all = tt
@@ -179,9 +175,9 @@ group_plain g =
     let start = plain_append (ascii "(stress ") (decimal g.axial) fixed_plain.2 (decimal_plain g.axial) in
     plain_append _ (ascii ")") (next_plain _ _ (plain_append _ (ring_text g.ring) (plain_append _ (ascii " ") start fixed_plain.0) (ring_plain g.ring))) fixed_plain.1
 
-inner_plain : (i : Inner) → plain (inner_text i) ≡ true
-inner_plain Inner.Missing = fixed_plain.6
-inner_plain (Inner.Given p) = plain_append _ (ascii ")") (plain_append (ascii " (inner ") (decimal p) fixed_plain.5 (decimal_plain p)) fixed_plain.1
+inner_plain : (i : Option ℕ) → plain (inner_text i) ≡ true
+inner_plain None = fixed_plain.6
+inner_plain (Some p) = plain_append _ (ascii ")") (plain_append (ascii " (inner ") (decimal p) fixed_plain.5 (decimal_plain p)) fixed_plain.1
 
 groups_plain : (gs : List Group) → plain (groups_text gs) ≡ true
 groups_plain [] = fixed_plain.6
@@ -198,9 +194,9 @@ text_plain c =
 
 -- ---- the lengths of the texts of pressure and groups
 
-inner_short : (i : Inner) → pressure_allowed i ≡ true → length (inner_text i) ≤ 16
-inner_short Inner.Missing h = omega arith
-inner_short (Inner.Given p) h = omega (arith, pressure_length p, decimal_length 6 p (omega (arith, leb-true p 1000000 h)))
+inner_short : (i : Option ℕ) → pressure_allowed i ≡ true → length (inner_text i) ≤ 16
+inner_short None h = omega arith
+inner_short (Some p) h = omega (arith, pressure_length p, decimal_length 6 p (omega (arith, leb-true p 1000000 h)))
 
 ring_short_lem : (r : Ring) → ring_in_range r ≡ true → wind_allowed r ≡ true → length (ring_text r) ≤ 14
 ring_short_lem (Stress σφ) h g = omega (arith, decimal_length 5 σφ (omega (arith, leb-true σφ 700000 h)))
@@ -271,14 +267,14 @@ module _ (c : LoadCases) (count : count_allowed c ≡ true) (all : AllPassed (ca
   pub line_short : length (line_of c) ≤ 369
   line_short = omega (arith, each_short, (count_between c count).few)
 
-  pub missing_short : c.inner ≡ Inner.Missing → length (line_of c) ≤ 49 + 38 * length c.groups
-  missing_short e = omega (arith, line_most, groups_most, ap (λ (i : Inner). length (inner_text i)) e)
+  pub missing_short : c.inner ≡ None → length (line_of c) ≤ 49 + 38 * length c.groups
+  missing_short e = omega (arith, line_most, groups_most, ap (λ (i : Option ℕ). length (inner_text i)) e)
 
   text_most : length (text c) ≤ 512
   text_most = omega (arith, line_short, length-append (text c) (10 ∷ []))
 
   -- reads as the load cases
-  pub written_reads : form_of (text c) ≡ Form.Read c
+  pub written_reads : form_of (text c) ≡ Some c
   written_reads = read_text (text c) c line_spells
 
   -- and has the program's answer to them
@@ -295,9 +291,9 @@ module _ (c : LoadCases) (count : count_allowed c ≡ true) (all : AllPassed (ca
       to _ (of_cases d a h is right) = subst (λ (x : LoadCases). RightCases o x a) (spells_once (text c) d c is line_spells) right
 
   -- and is put, where the buffer has room
-  pub line_put : (out : List ℕ) → 512 ≤ length out → writing c out ≡ (Put (length (line_of c)), starting_with (line_of c) out)
+  pub line_put : (out : List ℕ) → 512 ≤ length out → writing c out ≡ (Ok (length (line_of c)), starting_with (line_of c) out)
   unfolding writing
-  line_put out room = all_passed (λ n. (Refused n, out)) _ (writer_checks (length out) c) (le-leb 512 (length out) room, (count, all))
+  line_put out room = all_passed (λ r. (Err r, out)) _ (writer_checks (length out) c) (le-leb 512 (length out) room, (count, all))
 
   -- and has 36 bytes at least besides those of groups and pressure
   pub line_least : 36 + length (groups_text c.groups) + length (inner_text c.inner) ≤ length (line_of c)
@@ -329,8 +325,8 @@ module _ (c : LoadCases) (count : count_allowed c ≡ true) (all : AllPassed (ca
   wind_long n g at w v e =
       omega (arith, line_least, group_within c.groups n g at, group_long g, wind_length w v, decimal_some w, decimal_some v, ap (λ (r : Ring). length (ring_text r)) e)
 
-  pub inner_long : (p : ℕ) → c.inner ≡ Inner.Given p → 10 ≤ length (inner_text c.inner)
-  inner_long p e = omega (arith, pressure_length p, decimal_some p, ap (λ (i : Inner). length (inner_text i)) e)
+  pub inner_long : (p : ℕ) → c.inner ≡ Some p → 10 ≤ length (inner_text c.inner)
+  inner_long p e = omega (arith, pressure_length p, decimal_some p, ap (λ (i : Option ℕ). length (inner_text i)) e)
 
   -- it is one line
   pub line_one : lines (line_of c) ≡ text c ∷ []
@@ -338,52 +334,51 @@ module _ (c : LoadCases) (count : count_allowed c ≡ true) (all : AllPassed (ca
   line_one = subst (λ (l : List ℕ). lines l ≡ text c ∷ []) (append-nil (line_of c)) (lines_ended (text c) [] (text_plain c))
 
 -- SCOPE 21.5: an answer that is laid down so has the number of a refusal, 16 at most, or of bytes put, 51 at least
-pub written_apart : (c : LoadCases) (out out' : List ℕ) (w : Written) → Writes c out out' w → ((n : ℕ) → w ≡ Refused n → written_number w ≤ 16) × ((n : ℕ) → w ≡ Put n → 51 ≤ written_number w)
-written_apart c out out' _ (refuses m f e) = (λ n q. below m f, λ n q. absurd (let z : ◌≡◌ {A = ℕ} 0 1 = cc in omega arith))
-  where
-    below : (m : ℕ) → FirstBroken (writer_checks (length out) c) m → m ≤ 16
-    below m (inl (f, is)) = omega (arith, is)
-    below m (inr (t, inl (f, is))) = omega (arith, is)
-    below m (inr (t, inr (u, f))) = omega (arith, (cases_range PressureFirst c m (refused m f)).1)
-written_apart c out out' _ (puts (t, (count, all)) e) = (λ n q. absurd (let z : ◌≡◌ {A = ℕ} 0 1 = cc in omega arith), λ n q. omega (arith, line_long c count all))
+pub written_apart : (c : LoadCases) (out out' : List ℕ) (w : Written) → Writes c out out' w → ((r : Refusal) → w ≡ Err r → written_number w ≤ 16) × ((n : ℕ) → w ≡ Ok n → 51 ≤ written_number w)
+written_apart c out out' _ (refuses m f e) = (λ r q. (refusal_range m).1, λ n q. absurd (let z : ◌≡◌ {A = ℕ} 0 1 = cc in omega arith))
+written_apart c out out' _ (puts (t, (count, all)) e) = (λ r q. absurd (let z : ◌≡◌ {A = ℕ} 0 1 = cc in omega arith), λ n q. omega (arith, line_long c count all))
+
+-- a check refuses by a number of 13 at most
+thirteen : {k r : Refusal} → refusal_number k ≤ 13 → k ≡ r → refusal_number r ≤ 13
+thirteen h e = subst (λ (x : Refusal). refusal_number x ≤ 13) e h
 
 -- without pressure a refusal is 13 at most
-missing_range : (c : LoadCases) → pressure_allowed c.inner ≡ true → (m : ℕ) → FirstBroken (case_checks c) m → m ≤ 13
-missing_range c allowed m (inl (f, is)) = omega (arith, is)
-missing_range c allowed m (inr (_, inl (f, is))) = omega (arith, is)
-missing_range c allowed m (inr (_, inr (_, inl (f, is)))) = omega (arith, is)
-missing_range c allowed m (inr (_, inr (_, inr (_, inl (f, is))))) = omega (arith, is)
-missing_range c allowed m (inr (_, inr (_, inr (_, inr (_, inl (f, is)))))) = omega (arith, is)
-missing_range c allowed m (inr (_, inr (_, inr (_, inr (_, inr (_, inl (f, is))))))) = omega (arith, is)
-missing_range c allowed m (inr (_, inr (_, inr (_, inr (_, inr (_, inr (_, inl (f, is)))))))) = omega (arith, is)
+missing_range : (c : LoadCases) → pressure_allowed c.inner ≡ true → (m : Refusal) → FirstBroken (case_checks c) m → refusal_number m ≤ 13
+missing_range c allowed m (inl (f, is)) = thirteen (omega arith) is
+missing_range c allowed m (inr (_, inl (f, is))) = thirteen (omega arith) is
+missing_range c allowed m (inr (_, inr (_, inl (f, is)))) = thirteen (omega arith) is
+missing_range c allowed m (inr (_, inr (_, inr (_, inl (f, is))))) = thirteen (omega arith) is
+missing_range c allowed m (inr (_, inr (_, inr (_, inr (_, inl (f, is)))))) = thirteen (omega arith) is
+missing_range c allowed m (inr (_, inr (_, inr (_, inr (_, inr (_, inl (f, is))))))) = thirteen (omega arith) is
+missing_range c allowed m (inr (_, inr (_, inr (_, inr (_, inr (_, inr (_, inl (f, is)))))))) = thirteen (omega arith) is
 missing_range c allowed m (inr (_, inr (_, inr (_, inr (_, inr (_, inr (_, inr (_, inl (f, is))))))))) = absurd (clash allowed f)
 missing_range c allowed m (inr (_, inr (_, inr (_, inr (_, inr (_, inr (_, inr (_, inr (_, none))))))))) = absurd none
 
-pub missing_apart : (c : LoadCases) (out out' : List ℕ) (w : Written) → c.inner ≡ Inner.Missing → Writes c out out' w → (n : ℕ) → w ≡ Refused n → written_number w ≤ 13
-missing_apart c out out' _ none (refuses m f e) n q = below m f
+pub missing_apart : (c : LoadCases) (out out' : List ℕ) (w : Written) → c.inner ≡ None → Writes c out out' w → (r : Refusal) → w ≡ Err r → written_number w ≤ 13
+missing_apart c out out' _ none (refuses m f e) r q = below m f
   where
-    below : (m : ℕ) → FirstBroken (writer_checks (length out) c) m → m ≤ 13
-    below m (inl (f, is)) = omega (arith, is)
-    below m (inr (t, inl (f, is))) = omega (arith, is)
+    below : (m : Refusal) → FirstBroken (writer_checks (length out) c) m → refusal_number m ≤ 13
+    below m (inl (f, is)) = thirteen (omega arith) is
+    below m (inr (t, inl (f, is))) = thirteen (omega arith) is
     below m (inr (t, inr (u, f))) = missing_range c (ap pressure_allowed none) m f
-missing_apart c out out' _ none (puts all e) n q = absurd (let z : ◌≡◌ {A = ℕ} 0 1 = cc in omega arith)
+missing_apart c out out' _ none (puts all e) r q = absurd (let z : ◌≡◌ {A = ℕ} 0 1 = cc in omega arith)
 
 -- ---- a line with a verdict, written again: the same bytes and a newline, apart from a d that it lacks
 
 pub record Rewritten (l : List ℕ) : Type 0 where
   pub cases_of : LoadCases
-  pub is_read : form_of l ≡ Form.Read cases_of
+  pub is_read : form_of l ≡ Some cases_of
   pub same_text : (l ≡ text cases_of) ⊎ ((cases_of.wall.shortfall ≡ 0) × (l ≡ text_without_shortfall cases_of))
-  pub put_again : (out : List ℕ) → 512 ≤ length out → writing cases_of out ≡ (Put (length (line_of cases_of)), starting_with (line_of cases_of) out)
+  pub put_again : (out : List ℕ) → 512 ≤ length out → writing cases_of out ≡ (Ok (length (line_of cases_of)), starting_with (line_of cases_of) out)
 
-pub rewritten : (o : Order) (l : List ℕ) (j : Judgement) → RightLine o l (Answer.Judged j) → Rewritten l
+pub rewritten : (o : Order) (l : List ℕ) (j : Judgement) → RightLine o l (Ok j) → Rewritten l
 unfolding Spells
-rewritten o l j r = go (Answer.Judged j) r refl
+rewritten o l j r = go (Ok j) r refl
   where
-    of : (c : LoadCases) → RightCases o c (Answer.Judged j) → AllPassed (case_checks c)
+    of : (c : LoadCases) → RightCases o c (Ok j) → AllPassed (case_checks c)
     of c (judged _ all b v) = all
 
-    go : (a : Answer) → RightLine o l a → a ≡ Answer.Judged j → Rewritten l
+    go : (a : Answer) → RightLine o l a → a ≡ Ok j → Rewritten l
     go _ (too_long h) q = absurd (let z : ◌≡◌ {A = ℕ} 0 1 = cc in omega arith)
     go _ (not_form h none) q = absurd (let z : ◌≡◌ {A = ℕ} 0 1 = cc in omega arith)
     go _ (of_cases c a h is right) q =
@@ -396,44 +391,33 @@ rewritten o l j r = go (Answer.Judged j) r refl
 
 -- ---- for the code
 
--- the count is how many load cases there are
-pub count_is : (c : Cases) → (c.count ≤ 8) × (length c.groups ≡ 8) → length (load_cases c).groups ≡ c.count
-count_is c (most, size) = length-take c.count c.groups ∙ omega (arith, most, size)
-
-pub counts : (c : Cases) → (c.count ≤ 8) × (length c.groups ≡ 8) → (c.count ≡ 0 → ⊥) → Count (load_cases c)
-counts c sized some = record { some = omega (arith, count_is c sized, above c.count some); few = omega (arith, count_is c sized, sized.0) }
-  where
-    above : (n : ℕ) → (n ≡ 0 → ⊥) → 1 ≤ n
-    above zero none = absurd (none refl)
-    above (suc n) _ = omega arith
-
 module _ (c : LoadCases) (out : List ℕ) where
-  pub laid : (out' : List ℕ) (r : Written) → ◌≡◌ {A = Written × List ℕ} (r, out') (writing c out) → Writes c out out' r × ◌≡◌ {A = Written × List ℕ} (r, out') (writing c out)
-  laid out' r e = (subst (λ (w : Written × List ℕ). Writes c out w.1 w.0) (sym e) (writes c out), e)
+  pub laid : (out' : List ℕ) (w : Written) → ◌≡◌ {A = Written × List ℕ} (w, out') (writing c out) → Writes c out out' w
+  laid out' w e = subst (λ (x : Written × List ℕ). Writes c out x.1 x.0) (sym e) (writes c out)
 
-  pub writing_small : length out < 512 → (Refused 12, out) ≡ writing c out
+  pub writing_small : length out < 512 → ◌≡◌ {A = Written × List ℕ} (Err Refusal.LineRoom, out) (writing c out)
   unfolding writing
-  writing_small h = sym (first_broken (λ n. (Refused n, out)) _ (writer_checks (length out) c) 12 (inl (lt-leb 512 (length out) h, refl)))
+  writing_small h = sym (first_broken (λ r. (Err r, out)) _ (writer_checks (length out) c) Refusal.LineRoom (inl (lt-leb 512 (length out) h, refl)))
 
   module _ (room : 512 ≤ length out) where
-    pub writing_uncounted : count_allowed c ≡ false → (Refused 5, out) ≡ writing c out
+    pub writing_uncounted : length c.groups ≡ 0 → ◌≡◌ {A = Written × List ℕ} (Err Refusal.Form, out) (writing c out)
     unfolding writing
-    writing_uncounted not = sym (first_broken (λ n. (Refused n, out)) _ (writer_checks (length out) c) 5 (inr (le-leb 512 (length out) room, inl (not, refl))))
+    writing_uncounted none = sym (first_broken (λ r. (Err r, out)) _ (writer_checks (length out) c) Refusal.Form (inr (le-leb 512 (length out) room, inl (count_none c none, refl))))
 
-    module _ (k : Count c) (n : ℕ) (is : n ≡ refusal_by (case_checks c)) where
-      pub writing_refused : 0 < n → (Refused n, out) ≡ writing c out
+    module _ (k : Count c) where
+      pub writing_refused : (r : Refusal) → Err r ≡ refusal_by (case_checks c) → ◌≡◌ {A = Written × List ℕ} (Err r, out) (writing c out)
       unfolding writing
-      writing_refused pos =
+      writing_refused r is =
           sym
-          (first_broken (λ n. (Refused n, out)) _ (writer_checks (length out) c) n
-          (inr (le-leb 512 (length out) room, inr (count_allowed_lem c k, refusal_broken (case_checks c) (cases_above c) n is pos))))
+          (first_broken (λ r. (Err r, out)) _ (writer_checks (length out) c) r
+          (inr (le-leb 512 (length out) room, inr (count_allowed_lem c k, refusal_broken (case_checks c) r is))))
 
-      module _ (none : n ≤ 0) where
+      module _ (is : Ok tt ≡ refusal_by (case_checks c)) where
         passed : AllPassed (case_checks c)
-        passed = refusal_none (case_checks c) (cases_above c) n is none
+        passed = refusal_none (case_checks c) is
 
         pub writing_fits : length (line_of c) ≤ length out
         writing_fits = omega (arith, line_short c (count_allowed_lem c k) passed, room)
 
-        pub writing_put : (r : ℕ) (out' : List ℕ) → r ≡ length (line_of c) → out' ≡ put out 0 (line_of c) → ◌≡◌ {A = Written × List ℕ} (Put r, out') (writing c out)
-        writing_put r out' e f = (λ i. (Put (e i), (f ∙ put_all out (line_of c) writing_fits) i)) ∙ sym (line_put c (count_allowed_lem c k) passed out room)
+        pub writing_put : (n : ℕ) (out' : List ℕ) → n ≡ length (line_of c) → out' ≡ put out 0 (line_of c) → ◌≡◌ {A = Written × List ℕ} (Ok n, out') (writing c out)
+        writing_put n out' e f = (λ i. (Ok (e i), (f ∙ put_all out (line_of c) writing_fits) i)) ∙ sym (line_put c (count_allowed_lem c k) passed out room)

@@ -1,13 +1,17 @@
 -- SCOPE 10.12, 21, 25.8 and 26.8: the writer of the line of load cases: its checks in their order, what it leaves in the buffer, and the number of its
 -- answer.
-use Rattle.std.specs.Prelude.{ℕ, ◌≡◌, Bool, List, ◌∷◌, ◌++◌, length, drop, leb}
+use Rattle.std.specs.Prelude.{ℕ, ◌≡◌, Bool, List, ◌∷◌, ◌++◌, length, drop, leb, Result, Ok, Err}
+use Rattle.answer.specs.declared.Refusal.{Refusal}
+use Rattle.answer.specs.Answers.{refusal_number}
 use Rattle.answer.specs.Checks.{Check, check, FirstBroken, AllPassed}
 use Rattle.record.specs.Limits.{from_to}
 use Rattle.cases.specs.Cases.{LoadCases, case_checks}
 use Rattle.reading.specs.Text.{text}
 use Rattle.listing.specs.Listing.{ended}
-use Rattle.writer.specs.declared.Written.{Written}
-use Rattle.writer.specs.declared.Written.TheVariants.{Put, Refused}
+
+-- what a writer answers: so many bytes put, or the refusal
+abbrev pub Written : Type 0
+Written = Result ℕ Refusal
 
 -- a buffer has at least so many bytes
 abbrev pub room_least : ℕ
@@ -19,7 +23,7 @@ count_allowed c = from_to 1 8 (length c.groups)
 
 -- check 12 of the buffer, then 5 of the count, and then those of the load cases
 abbrev pub writer_checks : ℕ → LoadCases → List Check
-writer_checks room c = check 12 (leb room_least room) ∷ check 5 (count_allowed c) ∷ case_checks c
+writer_checks room c = check Refusal.LineRoom (leb room_least room) ∷ check Refusal.Form (count_allowed c) ∷ case_checks c
 
 -- the line of load cases, with its newline
 abbrev pub line_of : LoadCases → List ℕ
@@ -31,13 +35,13 @@ starting_with bytes out = bytes ++ drop (length bytes) out
 
 -- what is laid down of the answer, and of the buffer at exit: refused by the first check broken, and the buffer as it was; or the line is put
 pub data Writes (c : LoadCases) (out out' : List ℕ) : Written → Type 0 where
-  refuses : (n : ℕ) → FirstBroken (writer_checks (length out) c) n → out' ≡ out → Writes c out out' (Refused n)
-  puts : AllPassed (writer_checks (length out) c) → out' ≡ starting_with (line_of c) out → Writes c out out' (Put (length (line_of c)))
+  refuses : (r : Refusal) → FirstBroken (writer_checks (length out) c) r → out' ≡ out → Writes c out out' (Err r)
+  puts : AllPassed (writer_checks (length out) c) → out' ≡ starting_with (line_of c) out → Writes c out out' (Ok (length (line_of c)))
 
 -- the number of an answer: how many bytes are put, or the refusal
 abbrev pub written_number : Written → ℕ
-written_number (Put n) = n
-written_number (Refused n) = n
+written_number (Ok n) = n
+written_number (Err r) = refusal_number r
 
 -- an answer and a buffer, with the answer's number
 abbrev pub numbered : Written × List ℕ → ℕ × List ℕ

@@ -1,9 +1,8 @@
 -- `interval::levelled` meets its contract: a step up halves each bound at least once. Assumes nothing.
-use mathlib.Core.Path.{◌≡◌}
+use mathlib.Core.Path.{◌≡◌, refl}
 use Prim.Native.Nat.{ℕ, ◌+◌, ◌-◌, ◌*◌, ◌/◌, ◌^◌, ◌≤◌, ◌<◌}
-use native.Mathlib.Nat.{add_comm, lt_of_le_of_lt}
+use native.Mathlib.Nat.{add_comm}
 use native.Mathlib.Omega.{arith}
-use lib.Dec.{lit<}
 use lib.Pow.{pow-add, pow_pos, shr_le, shr-shr}
 use Rattle.interval.specs.declared.Interval.{Interval}
 use Rattle.interval.specs.Around.{power, Around, Enclosed}
@@ -30,47 +29,22 @@ gap_half x k r e h = let l = half x k 2147483649 r e (omega arith) in omega arit
 meet : (p q s t : ℕ) → s ≡ q - p → t ≡ p - q → p + (s + 1) ≡ t + 1 + q
 meet p q s t d e = omega arith
 
-pub overflow_add-s : goal.overflow_add-s
-overflow_add-s c =
-    let f = c.fit.ensures c.if-fit.true in
-    omega (arith, c.above-s.ensures, f.3.up_most)
-
-pub overflow_add-t : goal.overflow_add-t
-overflow_add-t c =
-    let f = c.fit.ensures c.if-fit.true in
-    omega (arith, c.above-t.ensures, f.2.up_most)
-
-pub overflow_add-result : goal.overflow_add-result
-overflow_add-result c =
-    let f = c.fit.ensures c.if-fit.true in
-    record { fits = lt_of_le_of_lt (gap_half _ _ _ c.shifted-then-fit.ensures f.2.gap_most) (lit< tt) }
-
-pub overflow_add-result-then-fit : goal.overflow_add-result-then-fit
-overflow_add-result-then-fit c =
-    let f = c.fit.ensures c.if-fit.true in
-    record { fits = lt_of_le_of_lt (gap_half _ _ _ c.shifted-then-fit-3.ensures f.3.gap_most) (lit< tt) }
-
-pub overflow_add-result-then-fit-2 : goal.overflow_add-result-then-fit-2
-overflow_add-result-then-fit-2 c =
-    let f = c.fit.ensures c.if-fit.true in
-    omega (arith, c.above-s.ensures, f.2.up_most, f.3.up_most)
-
-pub returns-then-fit : goal.returns-then-fit
-returns-then-fit c =
-    let s = c.above-s in
-    let t = c.above-t in
-    let f = c.fit.ensures c.if-fit.true in
+pub returns : goal.returns
+returns c =
+    let s = c.saturating_sub-s in
+    let t = c.saturating_sub-t in
+    let f = c.if-not-fit.ensures refl in
     let a = c.args.a in
     let b = c.args.b in
     let al = c.shifted.ensures in
-    let ag = c.shifted-then-fit.ensures in
-    let bl = c.shifted-then-fit-2.ensures in
-    let bg = c.shifted-then-fit-3.ensures in
+    let ag = c.shifted-2.ensures in
+    let bl = c.shifted-3.ensures in
+    let bg = c.shifted-4.ensures in
     record {
       a_most = half _ _ 9223372036854775808 _ al (omega arith);
       g_most = gap_half _ _ _ ag f.2.gap_most;
       b_most = half _ _ 9223372036854775808 _ bl (omega arith);
       h_most = gap_half _ _ _ bg f.3.gap_most;
-      first = λ _ x h. raised a (s.result + 1) _ _ _ x (add_comm a.up _) al ag f.0 h;
-      second = λ _ y h. raised b (t.result + 1) _ _ _ y (meet a.up b.up _ _ s.ensures t.ensures) bl bg f.1 h;
+      first = λ x h. raised a (s.result + 1) _ _ _ x (add_comm a.up _) al ag f.0 h;
+      second = λ y h. raised b (t.result + 1) _ _ _ y (meet a.up b.up _ _ s.ensures t.ensures) bl bg f.1 h;
     }

@@ -26,4 +26,4 @@ returns c known =
     let x = c.args.x in
     let z = count_leading_zeros 64 x % 64 in
     let e = shifted x z (4096 - z) (omega arith) (few x _ (omega arith) known) (omega arith) in
-    (le_of_eq e, le_of_eq (sym e ∙ ap (λ (m : ℕ). m * power (4096 - z)) (sym (add-zero _))))
+    rw c.from.ensures (le_of_eq e, le_of_eq (sym e ∙ ap (λ (m : ℕ). m * power (4096 - z)) (sym (add-zero _))))

@@ -6,30 +6,6 @@ use Rattle.interval.specs.Around.{top, power, scale}
 use Rattle.interval.proofs.Bounds.{scale_out, power_pos, times_low, times_high, gap_times, factor_pos}
 use Rattle.interval.proofs.times.Goals as goal
 
-pub overflow_add-result : goal.overflow_add-result
-overflow_add-result c =
-    let a = c.fits.ensures c.if-fits.true in
-    let b = c.fits-then-fits.ensures c.if-fits-2.true in
-    omega (arith, a.gap_most, b.gap_most)
-
-pub overflow_add-result-then-fits-2 : goal.overflow_add-result-then-fits-2
-overflow_add-result-then-fits-2 c =
-    let a = c.fits.ensures c.if-fits.true in
-    let b = c.fits-then-fits.ensures c.if-fits-2.true in
-    omega (arith, a.gap_most, b.gap_most)
-
-pub overflow_add-result-then-fits-2-2 : goal.overflow_add-result-then-fits-2-2
-overflow_add-result-then-fits-2-2 c =
-    let a = c.fits.ensures c.if-fits.true in
-    let b = c.fits-then-fits.ensures c.if-fits-2.true in
-    omega (arith, a.up_most, b.up_most)
-
-pub overflow_sub-result : goal.overflow_sub-result
-overflow_sub-result c =
-    let a = c.fits.ensures c.if-fits.true in
-    let b = c.fits-then-fits.ensures c.if-fits-2.true in
-    omega (arith, a.up_least, b.up_least)
-
 pub returns-then-fits-2 : goal.returns-then-fits-2
 returns-then-fits-2 c x y around_a around_b known =
     let h = c.head in

@@ -8,8 +8,8 @@ use Rattle.interval_product.proofs.joined.Goals as goal
 alone : (m w : ℕ) → m ≡ 1 → w ≡ m * w
 alone m w h = rw h (omega arith)
 
-pub returns-then-fresh : goal.returns-then-fresh
-returns-then-fresh c m a one = around_as _ (alone m _ (one c.if-fresh.true)) c.of.ensures
+pub returns-in-Some : goal.returns-in-Some
+returns-in-Some c m h = c.times.ensures m _ (rw c.in-Some.is at h) c.of.ensures
 
-pub returns-else-fresh : goal.returns-else-fresh
-returns-else-fresh c m a one = c.times.ensures m _ a c.of-else-fresh.ensures
+pub returns-in-None : goal.returns-in-None
+returns-in-None c m h = around_as _ (alone m _ (rw c.in-None.is at h)) c.of-in-None.ensures

@@ -1,24 +1,31 @@
 -- `plates::choose` meets its contract. Assumes nothing.
-use mathlib.Core.Path.{◌∙◌}
-use Rattle.plates.proofs.Choices.{as_chosen, broken_choice, passed_choice, found_place, found_none}
+use mathlib.Core.Path.{ap, ◌∙◌}
+use Prim.Native.Nat.{ℕ, ◌+◌}
+use Rattle.std.proofs.lemmas.Result.{err_from_is_err_and}
+use Rattle.std.specs.Prelude.{Option, Ok, Err, option_map}
+use Rattle.plates.specs.Plates.{Chosen}
+use Rattle.plates.proofs.Choices.{as_chosen, broken_choice, passed_choice}
 use Rattle.plates.proofs.choose.Goals as goal
 
-pub returns-then-n-gt0 : goal.returns-then-n-gt0
-returns-then-n-gt0 c =
+-- the place of what was found
+abbrev placed : Option ℕ → Chosen
+placed r = Ok (option_map (λ i. i + 1) r)
+
+pub returns-in_err-check : goal.returns-in_err-check
+returns-in_err-check c =
     let a = c.args in
-    let f = as_chosen a.s a.f a.plates.now _ (broken_choice a.s a.f a.plates.now _ c.refusal-n.ensures c.if-n-gt0.true) in
+    let p = err_from_is_err_and c.from_residual.result c.from_residual.ensures.1 in
+    let f = as_chosen a.s a.f a.plates.now _ (p.1 ∙ ap Err p.2 ∙ broken_choice a.s a.f a.plates.now _ c.in_err-check.ensures) in
     record { value = f.0; right_choice = f.1 }
 
-pub returns-then-i-plates : goal.returns-then-i-plates
-returns-then-i-plates c =
+pub returns-in-Some : goal.returns-in-Some
+returns-in-Some c =
     let a = c.args in
-    let f = as_chosen a.s a.f a.plates.now _
-    (found_place a.s a.f a.plates.now _ c.before_first-i.ensures c.if-i-plates.true ∙ passed_choice a.s a.f a.plates.now _ c.refusal-n.ensures c.if-n-gt0.false) in
+    let f = as_chosen a.s a.f a.plates.now _ (ap placed c.in-Some.ensures ∙ passed_choice a.s a.f a.plates.now c.in_ok-check.ensures) in
     record { value = f.0; right_choice = f.1 }
 
-pub returns-else-i-plates : goal.returns-else-i-plates
-returns-else-i-plates c =
+pub returns-in-None : goal.returns-in-None
+returns-in-None c =
     let a = c.args in
-    let f = as_chosen a.s a.f a.plates.now _
-    (found_none a.s a.f a.plates.now _ c.before_first-i.ensures c.if-i-plates.false ∙ passed_choice a.s a.f a.plates.now _ c.refusal-n.ensures c.if-n-gt0.false) in
+    let f = as_chosen a.s a.f a.plates.now _ (ap placed c.in-None.ensures ∙ passed_choice a.s a.f a.plates.now c.in_ok-check.ensures) in
     record { value = f.0; right_choice = f.1 }

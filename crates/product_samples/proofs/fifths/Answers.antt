@@ -4,4 +4,4 @@ use native.Mathlib.Nat.{mul-one}
 use Rattle.product_samples.proofs.fifths.Goals as goal
 
 pub returns : goal.returns
-returns c = c.at_most.ensures ∙ rw (c.times-j.ensures.is, c.fifth-i.ensures.is, c.fifth-k.ensures.is) (simp mul-one)
+returns c = c.at_most.ensures ∙ rw (c.times.ensures.is, c.fifth-f.ensures.is, c.fifth-g.ensures.is) (simp mul-one)

@@ -1,34 +1,38 @@
 -- `readings::put_rows` meets its contract. Assumes nothing.
-use mathlib.Core.Path.{ap, ◌∙◌}
-use native.Mathlib.Nat.{zero-add}
+use mathlib.Core.Path.{◌≡◌, refl, ◌∙◌}
+use mathlib.Core.Logic.{inl, inr}
+use mathlib.Core.List.{[]}
 use native.Mathlib.Omega.{arith}
-use lib.ListN.{length}
-use Rattle.text.proofs.Laws.{rest_less, lines_le}
-use Rattle.readings.proofs.Laws.{here_first, here_room, here_count, here_turn, here_end}
+use Rattle.std.proofs.Common.{rules}
+use Rattle.text.specs.Slices.{put as put_at}
+use Rattle.text.proofs.Laws.{lines_le}
+use Rattle.lines.specs.Left.{lines_left}
+use Rattle.readings.specs.Running.{differences}
+use Rattle.readings.proofs.Laws.{here_first, here_room, here_turn, here_end, opened_fits, opened_at, opened_out}
 use Rattle.readings.proofs.put_rows.Goals as goal
 
-pub loop-rest-init : goal.loop-rest-init
-loop-rest-init c = here_first _ _
+pub loop-line-init : goal.loop-line-init
+loop-line-init c =
+    let all = c.into_iter-line-iterator.ensures.into_iter_gives in
+    here_first _ _ _ _ (rw (all, c.zip-line-items.ensures.first) c.of.ensures) (rw (all, c.zip-line-items.ensures.second) refl)
 
-pub put_row-at-requires : goal.put_row-at-requires
-put_row-at-requires c = here_room _ _ _ _ _ _ c.loop-rest.invariant c.loop-rest-test.true _ c.first_line-line.ensures _ c.change_on-c.ensures c.requires.1
+pub put_row-requires : goal.put_row-requires
+put_row-requires c =
+    let (steps, (same, more)) = c.in-Some.ensures.steps in
+    here_room _ _ _ _ _ c.loop-line.invariant _ c.next.new.self.a steps _ same _ c.change_on.ensures (opened_fits _ _ c.new-page.ensures _ c.requires.1)
 
-pub overflow_add-k : goal.overflow_add-k
-overflow_add-k c =
-    let few = here_count _ _ _ _ _ _ c.loop-rest.invariant c.loop-rest-test.true _ c.first_line-line.ensures _ c.change_on-c.ensures (omega (arith, lines_le c.args.sheet.now, c.requires.0)) in
-    omega (arith, few)
+pub loop-line-preserved : goal.loop-line-preserved
+loop-line-preserved c =
+    let (steps, (same, more)) = c.in-Some.ensures.steps in
+    here_turn _ _ _ _ _ c.loop-line.invariant _ _ steps _ same _ c.change_on.ensures _ more c.put_row.ensures
 
-pub after_first-next-requires : goal.after_first-next-requires
-after_first-next-requires c = ap length c.first_line-line.ensures
-
-pub loop-rest-smaller : goal.loop-rest-smaller
-loop-rest-smaller c = rest_less _ _ c.after_first-next.ensures c.loop-rest-test.true
-
-pub loop-rest-preserved : goal.loop-rest-preserved
-loop-rest-preserved c = here_turn _ _ _ _ _ _ c.loop-rest.invariant c.loop-rest-test.true _ c.first_line-line.ensures _ c.change_on-c.ensures _ c.after_first-next.ensures _ _ c.put_row-at.ensures
-
-pub shape_of-out : goal.shape_of-out
-shape_of-out c = c.loop-rest.invariant.same
-
+-- the numbers of lines do not end before the lines do
 pub returns : goal.returns
-returns c = let w = here_end _ _ _ _ _ _ c.loop-rest.invariant c.loop-rest-test.false in record { value = w.value ∙ zero-add _; out_after = w.out_after }
+returns c =
+    let here = c.loop-line.invariant in
+    let none : lines_left c.loop-line.line-iterator.a ≡ [] =
+    elim c.in-None.ensures.steps [ inl w ↦ w.1.0 | inr w ↦ absurd (omega (arith, here.counted, lines_le c.args.sheet.now, c.requires.0, w.1.0)) ]
+    in
+    let puts = here_end _ _ _ _ _ here none in
+    let out : c.loop-line.page.out.now ≡ put_at c.args.out.now 0 (differences c.args.sheet.now) = opened_out _ _ c.new-page.ensures _ puts in
+    record { value = c.length.ensures ∙ opened_at _ _ c.new-page.ensures _ puts; out_after = search rules }

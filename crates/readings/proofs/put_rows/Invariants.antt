@@ -1,9 +1,5 @@
-use lib.ListN.{length}
 use Rattle.readings.proofs.Laws.{Here}
 use Rattle.readings.proofs.put_rows.Given as goal
 
-abbrev pub invariant-loop-rest : goal.invariant-loop-rest
-invariant-loop-rest s = Here s.sheet s.initial.out s.out s.rest s.at s.k
-
-abbrev pub decreases-loop-rest : goal.decreases-loop-rest
-decreases-loop-rest s = length s.rest
+abbrev pub invariant-loop-line : goal.invariant-loop-line
+invariant-loop-line l = Here l.sheet l.initial.page l.page l.line-iterator.a l.line-iterator.b.start

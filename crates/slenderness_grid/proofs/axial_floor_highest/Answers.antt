@@ -4,4 +4,4 @@ use Rattle.slenderness_grid.proofs.Rows.{axial_floor_row}
 use Rattle.slenderness_grid.proofs.axial_floor_highest.Goals as goal
 
 pub returns : goal.returns
-returns c = axial_floor_row c.args.s c.args.q c.args.cap c.requires.0 c.root.ensures refl refl
+returns c = let a = c.args in axial_floor_row a.s a.g.q a.g.cap a.g.small.2 c.root.ensures refl refl

@@ -1,7 +1,6 @@
 -- `wind::root_at_most` meets its contract. Assumes nothing.
-use mathlib.Core.Path.{refl}
-use Rattle.wind.proofs.Rows.{within_row}
+use Rattle.wind.proofs.Rows.{within_factors}
 use Rattle.wind.proofs.root_at_most.Goals as goal
 
 pub returns : goal.returns
-returns c = within_row c.args.s c.args.gust c.args.d c.ring_edges-c.ensures.0 c.at_most.ensures refl refl
+returns c = let below_is = within_factors c.args.s.length c.args.s.wall c.args.d in cc

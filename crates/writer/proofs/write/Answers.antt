@@ -1,41 +1,46 @@
--- `writer::write` meets its contract. Assumes nothing.
-use mathlib.Core.Path.{◌∙◌}
+use Rattle.std.proofs.Common.{rules, Err}
+use Rattle.std.proofs.lemmas.Result.{err_from_is_err_and}
+use mathlib.Core.Path.{◌≡◌, ap, ◌∙◌}
+use native.Mathlib.Omega.{arith}
+use lib.ListN.{length}
+use Rattle.text.specs.Slices.{put}
 use Rattle.cases.specs.Answering.{load_cases}
-use Rattle.writer.proofs.Laws.{laid, count_none, count_is, counts, writing_small, writing_uncounted, writing_refused, writing_fits, writing_put}
+use Rattle.writer.specs.Writing.{line_of}
+use Rattle.writer.proofs.Laws.{Count, laid, writing_small, writing_uncounted, writing_refused, writing_fits, writing_put}
 use Rattle.writer.proofs.write.Goals as goal
 
 pub returns-then-out-lt-ROOM_LEAST : goal.returns-then-out-lt-ROOM_LEAST
 returns-then-out-lt-ROOM_LEAST c =
-    let x = c.args in
-    let f = laid (load_cases x.c) x.out.now _ _
-    (writing_small _ _ c.if-out-lt-ROOM_LEAST.true) in
-    record { writes = f.0; fact = f.1 }
+    let l = load_cases c.args.c.now in
+    let e = writing_small l c.args.out.now c.if-out-lt-ROOM_LEAST.true in
+    record { writes = laid l c.args.out.now _ _ e; fact = e }
 
-pub returns-then-c-eq0 : goal.returns-then-c-eq0
-returns-then-c-eq0 c =
-    let x = c.args in
-    let f = laid (load_cases x.c) x.out.now _ _
-    (writing_uncounted _ _ c.if-out-lt-ROOM_LEAST.false (count_none (load_cases x.c) (count_is x.c c.requires ∙ c.if-c-eq0.true))) in
-    record { writes = f.0; fact = f.1 }
+pub returns-then-len-eq0 : goal.returns-then-len-eq0
+returns-then-len-eq0 c =
+    let l = load_cases c.args.c.now in
+    let e = writing_uncounted l c.args.out.now c.if-out-lt-ROOM_LEAST.false (omega arith) in
+    record { writes = laid l c.args.out.now _ _ e; fact = e }
 
-pub returns-then-n-gt0 : goal.returns-then-n-gt0
-returns-then-n-gt0 c =
-    let x = c.args in
-    let f = laid (load_cases x.c) x.out.now _ _
-    (writing_refused _ _ c.if-out-lt-ROOM_LEAST.false (counts x.c c.requires c.if-c-eq0.false) _ c.refusal-n.ensures c.if-n-gt0.true) in
-    record { writes = f.0; fact = f.1 }
+pub returns-in_err-check : goal.returns-in_err-check
+returns-in_err-check c =
+    let l = load_cases c.args.c.now in
+    let out = c.args.out.now in
+    let some : Count l = record { some = omega arith; few = omega arith } in
+    let refusal = err_from_is_err_and c.from_residual.result c.from_residual.ensures.1 in
+    let e = writing_refused l out c.if-out-lt-ROOM_LEAST.false some _ (ap Err refusal.2 ∙ c.in_err-check.ensures) in
+    rw refusal.1 (record { writes = laid l out _ _ e; fact = e })
 
 pub put_line-requires : goal.put_line-requires
 put_line-requires c =
-    let x = c.args in
-    record {
-      count_bound = c.requires;
-      c_in_bounds = writing_fits (load_cases x.c) x.out.now c.if-out-lt-ROOM_LEAST.false (counts x.c c.requires c.if-c-eq0.false) _ c.refusal-n.ensures c.if-n-gt0.false;
-    }
+    let l = load_cases c.args.c.now in
+    let some : Count l = record { some = omega arith; few = omega arith } in
+    omega (arith, writing_fits l c.args.out.now c.if-out-lt-ROOM_LEAST.false some c.in_ok-check.ensures, c.new-page.ensures.at, ap length c.new-page.ensures.out)
 
 pub returns : goal.returns
 returns c =
-    let x = c.args in
-    let f = laid (load_cases x.c) x.out.now _ _
-    (writing_put _ _ c.if-out-lt-ROOM_LEAST.false (counts x.c c.requires c.if-c-eq0.false) _ c.refusal-n.ensures c.if-n-gt0.false _ _ c.put_line.ensures.value c.put_line.ensures.out_after) in
-    record { writes = f.0; fact = f.1 }
+    let l = load_cases c.args.c.now in
+    let out = c.args.out.now in
+    let some : Count l = record { some = omega arith; few = omega arith } in
+    let bytes : c.put_line.new.page.out.now ≡ put out 0 (line_of l) = rw (← c.new-page.ensures.out, ← c.new-page.ensures.at) c.put_line.ensures.out in
+    let e = writing_put l out c.if-out-lt-ROOM_LEAST.false some c.in_ok-check.ensures _ _ (omega (arith, c.length.ensures, c.put_line.ensures.at, c.new-page.ensures.at)) (search rules) in
+    record { writes = laid l out _ _ e; fact = e }

@@ -1,40 +1,17 @@
 -- `record::Record::judgement` meets its contract. Assumes nothing.
-use mathlib.Core.Path.{ap, ◌∙◌}
-use native.Mathlib.Omega.{arith}
-use borrow.Author.Tests.{leb-true}
-use Rattle.record.specs.Limits.{pressure_of}
-use Rattle.cylinder.specs.declared.Cylinder.{Cylinder}
-use Rattle.record.specs.Right.{ring_stress}
-use Rattle.record.specs.Answering.{bounds_of}
-use Rattle.record.proofs.Checks.{ranges}
-use Rattle.record.proofs.Loads.{wall_fits, ring_fits, load_small, load_whole_range, bounds_are}
+use mathlib.Core.Path.{◌∙◌, ap}
+use mathlib.Core.Bool.{Bool}
+use Rattle.cylinder.specs.declared.ByStress.{ByStress}
+use Rattle.record.proofs.Loads.{pressure_fits, worked_on}
 use Rattle.record.proofs.Record.judgement.Goals as goal
 
-pub cylinder-s-requires : goal.cylinder-s-requires
-cylinder-s-requires c = wall_fits c.args.self c.requires
+pub work-w-requires : goal.work-w-requires
+work-w-requires c = pressure_fits c.args.self c.requires _ c.pressure.ensures
 
-pub stress_on-requires : goal.stress_on-requires
-stress_on-requires c = ring_fits c.args.self c.requires _ c.cylinder-s.ensures
-
-pub of_line-b-requires : goal.of_line-b-requires
-of_line-b-requires c =
-    let self = c.args.self in
-    let all = c.requires in
-    let r = ranges self all.0 in (
-      (ring_fits self all _ c.cylinder-s.ensures).0,
-      omega (arith, c.pressure.ensures, leb-true (pressure_of self.inner) 1000000 all.1.1.1.1.1.1.1.0),
-      load_whole_range _ c.load-x.ensures r.axial,
-      load_small _ c.load-y.ensures c.stress_on.ensures.upper_bound,
-      load_small _ c.load-z.ensures r.shear,
+pub judgement_by-requires : goal.judgement_by-requires
+judgement_by-requires c =
+    let w = c.wanted.ensures in (
+      c.requires,
+      worked_on c.args.self _ _ _ c.cylinder.ensures c.pressure.ensures (λ n. ap (λ (b : ByStress Bool). b.axial) w ∙ n) (λ n. ap (λ (b : ByStress Bool). b.ring) w ∙ n)
+          (λ n. ap (λ (b : ByStress Bool). b.shear) w ∙ n) c.work-w.ensures,
     )
-
-pub returns : goal.returns
-unfolding bounds_of
-returns c =
-    let b = c.of_line-b.ensures in
-    let e = c.cylinder-s.ensures in
-    let y = c.load-y.ensures in
-    let g = c.args.self.group in
-    c.by_bounds.ensures
-    ∙ bounds_are c.args.o _ _ _ _ _ _ _ _ _ _ _ _ e c.pressure.ensures c.load-x.ensures (y.0 ∙ c.stress_on.ensures.value ∙ ap (λ (s : Cylinder). ring_stress s g.ring) e, y.1)
-    c.load-z.ensures b.0 b.1

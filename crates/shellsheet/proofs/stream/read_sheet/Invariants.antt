@@ -1,8 +1,5 @@
 use Rattle.std.proofs.Common.{length, ◌≤◌}
 use Rattle.shellsheet.proofs.stream.read_sheet.Given as goal
 
-abbrev pub invariant-loop-turns : goal.invariant-loop-turns
-invariant-loop-turns g l = l.done ≤ length l.buf
-
-abbrev pub decreases-loop-turns : goal.decreases-loop-turns
-decreases-loop-turns g l = l.turns
+abbrev pub invariant-loop : goal.invariant-loop
+invariant-loop g l = l.done ≤ length l.buf

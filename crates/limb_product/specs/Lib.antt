@@ -1,2 +1,0 @@
--- Nobody has to believe it: only contracts between crates speak of it.
-pub mod Row

@@ -1,9 +1,0 @@
--- `record::in_range` meets its contract. Assumes nothing.
-use borrow.Author.Tests.{le-leb, lt-leb}
-use Rattle.record.proofs.in_range.Goals as goal
-
-pub returns-then-low-x : goal.returns-then-low-x
-returns-then-low-x c = rw (le-leb _ _ c.if-low-x.true)
-
-pub returns-else-low-x : goal.returns-else-low-x
-returns-else-low-x c = rw (lt-leb _ _ c.if-low-x.false)
