@@ -1,9 +1,10 @@
 -- Laws of a list of checks, each by one induction over the list. Assumes nothing.
-use mathlib.Core.Path.{◌≡◌, refl, sym, ◌∙◌}
+use mathlib.Core.Path.{◌≡◌, refl, sym, ap, ◌∙◌}
 use mathlib.Core.Bool.{Bool, true, false}
 use mathlib.Core.Logic.{◌⊎◌, inl, inr}
 use mathlib.Core.List.{List, [], ◌∷◌, map}
-use Rattle.std.specs.Prelude.{Ok, Err}
+use Rattle.std.proofs.lemmas.Result.{err_from_is_err_and}
+use Rattle.std.specs.Prelude.{Result, Ok, Err, IsErrAnd}
 use Rattle.algebra.proofs.Tests.{clash}
 use Rattle.answer.specs.declared.Refusal.{Refusal}
 use Rattle.answer.specs.Checks.{Check, FirstBroken, AllPassed}
@@ -69,6 +70,10 @@ among_every P (s ∷ ss) r (inl e) (p, ps) = rw (← e) p
 among_every P (s ∷ ss) r (inr a) (p, ps) = among_every P ss r a ps
 
 -- ---- for the code: what the way through the checks says of them
+
+-- what `?` gives back
+pub returned : {T : Type 0} (r : Result T Refusal) (n : Refusal) → IsErrAnd r (λ m. m ≡ n) → r ≡ Err n
+returned r n is = let (m, e, same) = err_from_is_err_and r is in e ∙ ap Err same
 
 module _ (ks : List Check) where
   pub refusal_broken : (r : Refusal) → Err r ≡ refusal_by ks → FirstBroken ks r

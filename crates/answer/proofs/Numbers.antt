@@ -52,45 +52,31 @@ judgement_tells i j (l, h, s, m) (l', h', s', m') e =
 abbrev refusal_at : ℕ → Refusal
 refusal_at n = get_or (SheetBytes ∷ SheetLines ∷ ListingRoom ∷ LineBytes ∷ Form ∷ Range ∷ Edges ∷ WallRatio ∷ LengthRatio ∷ Imperfection ∷ Shortfall ∷ LineRoom ∷ Wind ∷ PlateList ∷ Force ∷ Pressure ∷ []) (n - 1) Pressure
 
-refusal_back : (r : Refusal) → refusal_at (refusal_number r) ≡ r
-refusal_back SheetBytes = refl
-refusal_back SheetLines = refl
-refusal_back ListingRoom = refl
-refusal_back LineBytes = refl
-refusal_back Form = refl
-refusal_back Range = refl
-refusal_back Edges = refl
-refusal_back WallRatio = refl
-refusal_back LengthRatio = refl
-refusal_back Imperfection = refl
-refusal_back Shortfall = refl
-refusal_back LineRoom = refl
-refusal_back Wind = refl
-refusal_back PlateList = refl
-refusal_back Force = refl
-refusal_back Pressure = refl
+-- each refusal stands in it at its number, and the numbers are those of the table
+tabled : (r : Refusal) → (refusal_at (refusal_number r) ≡ r) × ((1 ≤ refusal_number r) × (refusal_number r ≤ 16))
+tabled SheetBytes = (refl, (lit≤ tt, lit≤ tt))
+tabled SheetLines = (refl, (lit≤ tt, lit≤ tt))
+tabled ListingRoom = (refl, (lit≤ tt, lit≤ tt))
+tabled LineBytes = (refl, (lit≤ tt, lit≤ tt))
+tabled Form = (refl, (lit≤ tt, lit≤ tt))
+tabled Range = (refl, (lit≤ tt, lit≤ tt))
+tabled Edges = (refl, (lit≤ tt, lit≤ tt))
+tabled WallRatio = (refl, (lit≤ tt, lit≤ tt))
+tabled LengthRatio = (refl, (lit≤ tt, lit≤ tt))
+tabled Imperfection = (refl, (lit≤ tt, lit≤ tt))
+tabled Shortfall = (refl, (lit≤ tt, lit≤ tt))
+tabled LineRoom = (refl, (lit≤ tt, lit≤ tt))
+tabled Wind = (refl, (lit≤ tt, lit≤ tt))
+tabled PlateList = (refl, (lit≤ tt, lit≤ tt))
+tabled Force = (refl, (lit≤ tt, lit≤ tt))
+tabled Pressure = (refl, (lit≤ tt, lit≤ tt))
 
 -- two refusals have two numbers
 pub refusal_same : (r s : Refusal) → refusal_number r ≡ refusal_number s → r ≡ s
-refusal_same r s e = sym (refusal_back r) ∙ ap refusal_at e ∙ refusal_back s
+refusal_same r s e = sym (tabled r).0 ∙ ap refusal_at e ∙ (tabled s).0
 
 pub refusal_range : (r : Refusal) → (1 ≤ refusal_number r) × (refusal_number r ≤ 16)
-refusal_range SheetBytes = (lit≤ tt, lit≤ tt)
-refusal_range SheetLines = (lit≤ tt, lit≤ tt)
-refusal_range ListingRoom = (lit≤ tt, lit≤ tt)
-refusal_range LineBytes = (lit≤ tt, lit≤ tt)
-refusal_range Form = (lit≤ tt, lit≤ tt)
-refusal_range Range = (lit≤ tt, lit≤ tt)
-refusal_range Edges = (lit≤ tt, lit≤ tt)
-refusal_range WallRatio = (lit≤ tt, lit≤ tt)
-refusal_range LengthRatio = (lit≤ tt, lit≤ tt)
-refusal_range Imperfection = (lit≤ tt, lit≤ tt)
-refusal_range Shortfall = (lit≤ tt, lit≤ tt)
-refusal_range LineRoom = (lit≤ tt, lit≤ tt)
-refusal_range Wind = (lit≤ tt, lit≤ tt)
-refusal_range PlateList = (lit≤ tt, lit≤ tt)
-refusal_range Force = (lit≤ tt, lit≤ tt)
-refusal_range Pressure = (lit≤ tt, lit≤ tt)
+refusal_range r = (tabled r).1
 
 -- equal numbers are of equal answers
 pub number_tells : (a b : Answer) → Bounded a → Bounded b → answer_number a ≡ answer_number b → a ≡ b

@@ -18,37 +18,37 @@ pub enum Verdict {
 #[derive(Clone, Copy, PartialEq, Eq)]
 pub enum Refusal {
     // the sheet has too many bytes
-    SheetBytes,
+    SheetBytes = 1,
     // the sheet has too many lines
-    SheetLines,
+    SheetLines = 2,
     // the listing has no room
-    ListingRoom,
+    ListingRoom = 3,
     // a line has too many bytes
-    LineBytes,
+    LineBytes = 4,
     // a line is not of the form
-    Form,
+    Form = 5,
     // a number lies outside its range
-    Range,
+    Range = 6,
     // the edges are not known
-    Edges,
+    Edges = 7,
     // the radius in wall thicknesses lies outside its range
-    WallRatio,
+    WallRatio = 8,
     // the length in radii lies outside its range
-    LengthRatio,
+    LengthRatio = 9,
     // an imperfection is too large
-    Imperfection,
+    Imperfection = 10,
     // the plate may be thinner by too much
-    Shortfall,
+    Shortfall = 11,
     // a line to be written has no room
-    LineRoom,
+    LineRoom = 12,
     // the wind's pressure or kind is not allowed
-    Wind,
+    Wind = 13,
     // the list of plates is empty, too long, or does not rise
-    PlateList,
+    PlateList = 14,
     // a force is too large
-    Force,
+    Force = 15,
     // the pressure inside is too high
-    Pressure,
+    Pressure = 16,
 }
 
 // A judged record: the verdict, L and U in ten-thousandths, and the load case that governs, counted from 1.
@@ -63,7 +63,7 @@ pub struct Judgement {
 // The answer to a record: the judgement, or the first check that it breaks.
 pub type Answer = Result<Judgement, Refusal>;
 
-// The digit of a verdict in the number of an answer.
+// The digit of a verdict in the number of an answer. The digits are not in the order from the best to the worst, which is the enum's, so they stand here.
 impl From<Verdict> for u64 {
     ghost from_gives = { λ v n. (n ≡ verdict_number v) × (n ≤ 3) };
 
@@ -81,24 +81,7 @@ impl From<Refusal> for u64 {
     ghost from_gives = { λ r n. n ≡ refusal_number r };
 
     fn from(refusal: Refusal) -> u64 {
-        match refusal {
-            Refusal::SheetBytes => 1,
-            Refusal::SheetLines => 2,
-            Refusal::ListingRoom => 3,
-            Refusal::LineBytes => 4,
-            Refusal::Form => 5,
-            Refusal::Range => 6,
-            Refusal::Edges => 7,
-            Refusal::WallRatio => 8,
-            Refusal::LengthRatio => 9,
-            Refusal::Imperfection => 10,
-            Refusal::Shortfall => 11,
-            Refusal::LineRoom => 12,
-            Refusal::Wind => 13,
-            Refusal::PlateList => 14,
-            Refusal::Force => 15,
-            Refusal::Pressure => 16,
-        }
+        refusal as u64
     }
 }
 
@@ -151,7 +134,7 @@ impl Judgement {
     }
 }
 
-// The number that the call from C returns for an answer.
+// The number that the call from C returns for an answer. A function: a `From` asks nothing, and here L and U have to fit their places.
 pub fn number(answer: Answer) -> u64
     requires { Bounded answer }
     ensures { result ≡ answer_number answer }

@@ -2,19 +2,18 @@
 // stress is a difference with a root, so the two sides are compared by their squares. Nothing is rounded.
 #![tactic(auto)]
 
-ghost use Rattle.cylinder.specs.InLimits.{InLimits};
 ghost use Rattle.cylinder.specs.WholeIdeal.{axial_bent};
 ghost use Rattle.cylinder.specs.Cut.{root_of};
 ghost use Rattle.root_order.specs.Decision.{Decides};
 
-use cylinder::Cylinder;
+use cylinder::ValidCylinder;
 use std::cmp::Ordering;
 
-// Axial stress, long, where Cx falls with the length: c - d q²/p² against e √(w/(200 r)).
-pub fn axial_bent_order(s: Cylinder, p: u64, q: u64) -> Ordering
-    requires { InLimits s }
-    ensures { Decides result (root_of 2 (axial_bent s)) p q }
+// Axial stress, long, where Cx falls with the length: a - b against e √(w/(200 r)), with p² in a and e, and q² in b.
+pub fn axial_bent_order(shell: ValidCylinder, p: u64, q: u64) -> Ordering
+    ensures { Decides result (root_of 2 (axial_bent shell.cylinder)) p q }
 {
+    let s = shell.cylinder;
     let h = lengths::eta(s.edges);
     let r = s.radius;
     let f = [121, s.modulus, s.wall, p, p, r, 10 * h + 2];

@@ -2,11 +2,10 @@
 use mathlib.Core.Path.{◌≡◌, refl, ap, subst, ◌∙◌}
 use mathlib.Core.Bool.{Bool}
 use mathlib.Core.Logic.{◌≢◌}
-use Prim.Native.Nat.{ℕ, zero, suc, min, ◌+◌, ◌/◌, ◌≤◌, ◌<◌}
+use Prim.Native.Nat.{ℕ, zero, suc, ◌≤◌, ◌<◌}
 use native.Mathlib.Omega.{arith}
 use lib.Dec.{leb}
 use borrow.Author.Tests.{leb-true}
-use Rattle.cylinder.specs.declared.ByStress.{ByStress}
 use Rattle.cylinder.specs.declared.Cylinder.{Cylinder}
 use Rattle.cylinder.specs.declared.Stress.{Stress}
 use Rattle.cylinder.specs.declared.Stress.TheVariants.{Axial, Ring, Shear}
@@ -14,7 +13,7 @@ use Rattle.cylinder.specs.Fraction.{Fraction, ◌//◌}
 use Rattle.cylinder.specs.Cut.{Cut}
 use Rattle.cylinder.specs.WholeTerm.{Term, formula}
 use Rattle.cylinder.specs.WholeStress.{excess}
-use Rattle.cylinder.specs.Search.{grid, place, most, Pair, around, term_bounds, sum_bounds}
+use Rattle.cylinder.specs.Search.{grid, place, most, around, term_bounds}
 use Rattle.cylinder.proofs.Search.{most_edge}
 use Rattle.algebra.proofs.Tests.{and_true}
 use Rattle.ideal.specs.Decision.{cut_of, cut_at}
@@ -26,11 +25,10 @@ use Rattle.term.specs.TermOf.{term_of}
 use Rattle.term.specs.declared.Branches.{Branches}
 use Rattle.term.specs.declared.Load.{Load}
 use Rattle.term.specs.declared.Point.{Point}
-use Rattle.bounds.specs.declared.Bounds.{Bounds}
 use Rattle.term.proofs.Terms as terms
 use Rattle.cylinder.specs.WholeCurves.{part1, part2}
 use Rattle.bounds.specs.Spot.{PlaceOf, LiesFor, SpotOf}
-use Rattle.bounds.specs.Stresses.{slenderness_of, part1_of, part2_of, term_for, fraction_of, low_of, pair_of, Reads, as_pair, terms_of, sum_of}
+use Rattle.bounds.specs.Stresses.{slenderness_of, part1_of, part2_of, term_for, fraction_of, low_of, pair_of, Reads}
 
 -- the branch by length is that of the slenderness
 pub cut_is : (kind : Stress) (short : Bool) (s : Cylinder) → short ≡ short_of kind s → cut_of kind short s ≡ slenderness_of kind s
@@ -84,7 +82,7 @@ low_most kind s num den = leb-true b 2000000 (and_true (leb b 2000000) (formula 
     b : ℕ
     b = most t k q
 
--- the bounds of a term, for a stress above 0 and for one of 0
+-- the bounds of a term for a stress above 0
 pub loaded : (kind : Stress) (s : Cylinder) (l : Load) → 0 < l.num → around (low_of kind s l.num l.den) ≡ pair_of kind s l
 unfolding term_bounds
 loaded kind s l some = go l.num some
@@ -98,23 +96,6 @@ loaded kind s l some = go l.num some
     go : (n : ℕ) → 0 < n → around (most t (place c (grid c)) (grid c)) ≡ term_bounds (grid c) n c t
     go zero h = absurd (omega arith)
     go (suc n) h = refl
-
-pub unloaded : (kind : Stress) (s : Cylinder) (l : Load) → ¬ (0 < l.num) → record { low = 0; high = 0 } ≡ pair_of kind s l
-unfolding term_bounds
-unloaded kind s l none = go l.num none
-  where
-    c : Cut
-    c = slenderness_of kind s
-
-    go : (n : ℕ) → ¬ (0 < n) → record { low = 0; high = 0 } ≡ term_bounds (grid c) n c (term_for kind s (fraction_of l))
-    go zero h = refl
-    go (suc n) h = absurd (h (omega arith))
-
--- L and U from the terms together
-pub sum_is : (more : ℕ) (s : Cylinder) (l : ByStress Load) (t : Bounds) (low high : ℕ) → as_pair t ≡ terms_of s l → low ≡ min 20000 (t.low / 100) → high ≡ min 20000 ((t.high + more + 99) / 100) →
-    as_pair (record { low = low; high = high }) ≡ sum_of more s l
-unfolding sum_bounds
-sum_is more s l t low high e el eh = (λ i. record { low = el i; high = eh i }) ∙ ap (λ (p : Pair). record { low = min 20000 (p.low / 100); high = min 20000 ((p.high + more + 99) / 100) }) e
 
 -- a place, with the branches that were read there, is where S lies
 pub spot_is : (b b' : Branch) (p : Point) (l : Limits) (r : Branches) → b' ≡ b → b.short ≡ short_of b.kind b.shell.cylinder → PlaceOf (cut_at b') p → Sides (cut_at b') l → Reads b.kind l r →

@@ -1,5 +1,6 @@
 -- Where the related slenderness S lies. Nobody has to believe this: only contracts between crates speak of it.
-use Rattle.std.specs.Prelude.{◌≡◌, Bool, true, ◌<◌, Option, MatchOption}
+use Rattle.std.specs.Prelude.{◌≡◌, Bool, true, ◌<◌, Option, Some, None, MatchOption}
+use Rattle.std.proofs.Props.{props}
 use Rattle.cylinder.specs.declared.ByStress.{ByStress}
 use Rattle.cylinder.specs.declared.Cylinder.{Cylinder}
 use Rattle.cylinder.specs.declared.Stress.{Stress}
@@ -28,14 +29,24 @@ pub record SpotOf (kind : Stress) (s : Cylinder) (r : Spot) : Type 0 where
   pub at : PlaceOf (slenderness_of kind s) r.point
   pub inside : LiesFor kind (slenderness_of kind s) r.branches
 
--- for each stress, where it is wanted: what is there is right, and none is missing
+-- for each stress, where it is wanted: the place is there, and it is right
 pub record SpotsFor (s : Cylinder) (A R H : Type 0) (r : ByStress (Option Spot)) : Type 0 where
-  pub axial : MatchOption r.axial (¬ A) (SpotOf Axial s)
-  pub ring : MatchOption r.ring (¬ R) (SpotOf Ring s)
-  pub shear : MatchOption r.shear (¬ H) (SpotOf Shear s)
+  pub axial : A → MatchOption r.axial ⊥ (SpotOf Axial s)
+  pub ring : R → MatchOption r.ring ⊥ (SpotOf Ring s)
+  pub shear : H → MatchOption r.shear ⊥ (SpotOf Shear s)
 
 abbrev pub SpotsWanted : Cylinder → ByStress Bool → ByStress (Option Spot) → Type 0
 SpotsWanted s w r = SpotsFor s (w.axial ≡ true) (w.ring ≡ true) (w.shear ≡ true) r
 
 abbrev pub SpotsLoaded : Cylinder → ByStress Load → ByStress (Option Spot) → Type 0
 SpotsLoaded s l r = SpotsFor s (0 < l.axial.num) (0 < l.ring.num) (0 < l.shear.num) r
+
+-- a place is right in one way only, so that a struct can keep the fact
+spot_prop : (kind : Stress) (s : Cylinder) (o : Option Spot) → IsProp (MatchOption o ⊥ (SpotOf kind s))
+spot_prop kind s None = hlevel props
+spot_prop Axial s (Some r) = hlevel props
+spot_prop Ring s (Some r) = hlevel props
+spot_prop Shear s (Some r) = hlevel props
+
+pub spots_prop : (s : Cylinder) (l : ByStress Load) (r : ByStress (Option Spot)) → IsProp (SpotsLoaded s l r)
+spots_prop s l r = hlevel (props, spot_prop)

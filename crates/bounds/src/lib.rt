@@ -2,7 +2,7 @@
 // each term from below by one rule, and L and U from the terms. The places depend on the cylinder alone, so several loads share them.
 #![tactic(auto)]
 
-ghost use Rattle.std.specs.Prelude.{◌≡◌, true, leb, ◌+◌, ◌*◌, ◌/◌, ◌≤◌, ◌<◌, min, MatchOption};
+ghost use Rattle.std.specs.Prelude.{◌≡◌, ◌*◌, ◌/◌, ◌≤◌, ◌<◌, MatchOption};
 ghost use Rattle.cylinder.specs.WholeStress.{excess as excess_of};
 ghost use Rattle.lengths.specs.Short.{short_of};
 ghost use Rattle.ideal.specs.Decision.{cut_at};
@@ -10,17 +10,19 @@ ghost use Rattle.slenderness_terms.specs.TermsFor.{TermsFor};
 ghost use Rattle.slenderness_grid.specs.Guessed.{GuessFor};
 ghost use Rattle.bounds.specs.Ready.{terms_prop};
 ghost use Rattle.bounds.specs.Sides.{Sides};
-ghost use Rattle.bounds.specs.Spot.{PlaceOf, SpotOf, LiesFor, SpotsWanted, SpotsLoaded};
+ghost use Rattle.bounds.specs.Spot.{PlaceOf, SpotOf, SpotsWanted, SpotsLoaded, spots_prop};
 ghost use Rattle.bounds.specs.Stresses.{part1_of, part2_of, part_for, part_of, loaded, as_pair, low_of, pair_of, Reads, terms_of, sum_of};
 
 use cylinder::{ByStress, Cylinder, Stress, ValidCylinder};
-use guess::Roots;
 use lengths::Branch;
-use slenderness_grid::Grid;
+use slenderness_grid::{FINE, Grid};
 use slenderness_terms::Terms;
 use std::cmp::Ordering;
 pub use term::Load;
 use term::{Branches, Part, Point, Sample};
+
+// How many points the grid of S has to a unit from 2 up; below 2 it is the fine one.
+const COARSE: u64 = 8000000;
 
 // Bounds of a term in millionths, or of the sum in ten-thousandths.
 #[derive(Clone, Copy)]
@@ -37,7 +39,18 @@ pub struct Spot {
     pub branches: Branches,
 }
 
+// A shell under three stresses, with the places of S that they need.
+#[derive(Clone, Copy)]
+pub struct Case {
+    pub shell: ValidCylinder,
+    pub spots: ByStress<Option<Spot>>,
+    pub loads: ByStress<Load>,
+    pub ghost placed: { SpotsLoaded shell.cylinder loads spots } by { spots_prop shell.cylinder loads spots },
+}
+
 // What is known of S before it is looked for: the branch by the length test, the terms of its comparisons, and a guess.
+// That the branch is the one of the length test is said here and not by Branch: `ideal::within` and slenderness_grid's `guess_for` and `highest` promise
+// their answers for either branch, and would promise them for one alone if Branch said it.
 #[derive(Clone, Copy)]
 struct Prepared {
     branch: Branch,
@@ -47,7 +60,7 @@ struct Prepared {
     ghost has_terms: { TermsFor branch.kind branch.short branch.shell.cylinder terms } by { terms_prop branch.kind branch.short branch.shell.cylinder terms },
 }
 
-// S on its grid: from k/q to (k + 1)/q.
+// S on its grid: from k/q to (k + 1)/q. The branch is the length test's, as in Prepared.
 #[derive(Clone, Copy)]
 struct Placed {
     branch: Branch,
@@ -56,7 +69,8 @@ struct Placed {
     ghost is_place: { PlaceOf (cut_at branch) point },
 }
 
-// Where S lies to the limits of the curves' branches.
+// Where S lies to the limits of the curves' branches. Seven flags, though they hang together: each is a test of the definitions, and one number of
+// the piece would have the order of the limits to prove.
 #[derive(Clone, Copy)]
 struct Limits {
     // S is at most 1/4, 2/5, 1, 3/2
@@ -71,13 +85,13 @@ struct Limits {
 }
 
 // What is known of S for a stress.
-fn prepare(roots: &Roots, kind: Stress, s: ValidCylinder) -> Prepared
+fn prepare(kind: Stress, s: ValidCylinder) -> Prepared
     ensures branch { (result.branch.kind ≡ kind) × (result.branch.shell ≡ s) }
     ensures guess { GuessFor kind (short_of kind s.cylinder) s.cylinder result.terms result.near }
 {
     let branch = lengths::branch_of(kind, s);
     let terms = slenderness_terms::terms_for(branch);
-    let near = slenderness_grid::guess_for(roots, branch, terms);
+    let near = slenderness_grid::guess_for(branch, terms);
     Prepared {
         branch,
         terms,
@@ -86,8 +100,8 @@ fn prepare(roots: &Roots, kind: Stress, s: ValidCylinder) -> Prepared
 }
 
 impl Prepared {
-    // The place of S: on a grid of 1/200,000,000 where S is below 2, and of 1/8,000,000 from 2 up.
-    fn place(self, roots: &Roots) -> Placed
+    // The place of S: on the fine grid where S is below 2, and on the coarse one from 2 up.
+    fn place(self) -> Placed
         ensures { result.branch ≡ self.branch }
     {
         let Prepared {
@@ -96,21 +110,21 @@ impl Prepared {
             near,
         } = self;
         let grid = Grid {
-            q: 200000000,
-            cap: 400000000,
+            q: FINE,
+            cap: 2 * FINE,
             near,
         };
-        let fine = slenderness_grid::highest(roots, branch, terms, grid);
+        let fine = slenderness_grid::highest(branch, terms, grid);
         if fine < grid.cap {
             let point = Point { k: fine, q: grid.q };
             return Placed { branch, point };
         }
         let grid = Grid {
-            q: 8000000,
+            q: COARSE,
             cap: 4294967295,
-            near: near / 25,
+            near: near / (FINE / COARSE),
         };
-        let coarse = slenderness_grid::highest(roots, branch, terms, grid);
+        let coarse = slenderness_grid::highest(branch, terms, grid);
         let point = Point {
             k: coarse,
             q: grid.q,
@@ -220,10 +234,10 @@ pub fn excess(s: Cylinder) -> u64
 
 // Where S lies for a stress.
 #[tactic(auto, using(crate::proofs::Stresses::spot_is))]
-fn spot_of(roots: &Roots, p: Prepared) -> Spot
+fn spot_of(p: Prepared) -> Spot
     ensures { SpotOf p.branch.kind p.branch.shell.cylinder result }
 {
-    let placed = p.place(roots);
+    let placed = p.place();
     let limits = placed.limits();
     Spot {
         point: placed.point,
@@ -243,23 +257,23 @@ pub fn loaded(loads: ByStress<Load>) -> ByStress<bool>
 }
 
 // Where S lies for each stress that is wanted.
-pub fn spots_for(roots: &Roots, s: ValidCylinder, wanted: ByStress<bool>) -> ByStress<Option<Spot>>
+pub fn spots_for(s: ValidCylinder, wanted: ByStress<bool>) -> ByStress<Option<Spot>>
     ensures { SpotsWanted s.cylinder wanted result }
 {
     // all guesses first: none waits for another
-    let x = wanted.axial.then(|| prepare(roots, Stress::Axial, s));
-    let y = wanted.ring.then(|| prepare(roots, Stress::Ring, s));
-    let z = wanted.shear.then(|| prepare(roots, Stress::Shear, s));
+    let x = wanted.axial.then(|| prepare(Stress::Axial, s));
+    let y = wanted.ring.then(|| prepare(Stress::Ring, s));
+    let z = wanted.shear.then(|| prepare(Stress::Shear, s));
     ByStress {
-        axial: x.map(|p| spot_of(roots, p)),
-        ring: y.map(|p| spot_of(roots, p)),
-        shear: z.map(|p| spot_of(roots, p)),
+        axial: x.map(spot_of),
+        ring: y.map(spot_of),
+        shear: z.map(spot_of),
     }
 }
 
 // The term of a stress above 0 from below, in millionths, up to 2,000,000.
 #[tactic(auto, using(crate::proofs::Stresses::term_is))]
-fn lowest(roots: &Roots, kind: Stress, s: ValidCylinder, load: Load, p: Spot) -> u64
+fn lowest(kind: Stress, s: ValidCylinder, load: Load, p: Spot) -> u64
     requires { SpotOf kind s.cylinder p }
     ensures { result ≡ low_of kind s.cylinder load.num load.den }
 {
@@ -268,75 +282,65 @@ fn lowest(roots: &Roots, kind: Stress, s: ValidCylinder, load: Load, p: Spot) ->
         branches: p.branches,
         excess: excess(s.cylinder),
     };
-    term::low(roots, kind, at, s.cylinder.yield_stress, load)
+    term::low(kind, at, s.cylinder.yield_stress, load)
 }
 
 // The term of a stress in millionths: 0 for a stress of 0, else less than 2 over its low bound.
-#[tactic(auto, using(crate::proofs::Stresses::low_most, crate::proofs::Stresses::loaded, crate::proofs::Stresses::unloaded))]
-fn term_bounds(
-    roots: &Roots,
-    kind: Stress,
-    s: ValidCylinder,
-    load: Load,
-    spot: Option<Spot>,
-) -> Bounds
-    requires { MatchOption spot (¬ (0 < load.num)) (SpotOf kind s.cylinder) }
+#[tactic(auto, using(crate::proofs::Stresses::low_most, crate::proofs::Stresses::loaded), unfolding(cylinder::specs::Search::term_bounds))]
+fn term_bounds(kind: Stress, s: ValidCylinder, load: Load, spot: Option<Spot>) -> Bounds
+    requires { 0 < load.num → MatchOption spot ⊥ (SpotOf kind s.cylinder) }
     ensures value { as_pair result ≡ pair_of kind s.cylinder load }
     ensures few { (result.low ≤ 2000000) × (result.high ≤ 2000002) }
 {
     match spot {
         Some(p) if 0 < load.num => {
-            let low = lowest(roots, kind, s, load, p);
+            let low = lowest(kind, s, load, p);
             Bounds { low, high: low + 2 }
         }
         _ => Bounds { low: 0, high: 0 },
     }
 }
 
-// The three terms together, in millionths.
-fn in_millionths(
-    roots: &Roots,
-    s: ValidCylinder,
-    spots: ByStress<Option<Spot>>,
-    loads: ByStress<Load>,
-) -> Bounds
-    requires { SpotsLoaded s.cylinder loads spots }
-    ensures value { as_pair result ≡ terms_of s.cylinder loads }
-    ensures few { (result.low ≤ 6000000) × (result.high ≤ 6000006) }
-{
-    let a = term_bounds(roots, Stress::Axial, s, loads.axial, spots.axial);
-    let r = term_bounds(roots, Stress::Ring, s, loads.ring, spots.ring);
-    let h = term_bounds(roots, Stress::Shear, s, loads.shear, spots.shear);
-    Bounds {
-        low: a.low + r.low + h.low,
-        high: a.high + r.high + h.high,
+impl Case {
+    // The three terms together, in millionths.
+    fn in_millionths(self) -> Bounds
+        ensures value { as_pair result ≡ terms_of self.shell.cylinder self.loads }
+        ensures few { (result.low ≤ 6000000) × (result.high ≤ 6000006) }
+    {
+        let s = self.shell;
+        let a = term_bounds(Stress::Axial, s, self.loads.axial, self.spots.axial);
+        let r = term_bounds(Stress::Ring, s, self.loads.ring, self.spots.ring);
+        let h = term_bounds(Stress::Shear, s, self.loads.shear, self.spots.shear);
+        Bounds {
+            low: a.low + r.low + h.low,
+            high: a.high + r.high + h.high,
+        }
+    }
+
+    // L and U, with some millionths more on the high side.
+    #[tactic(auto, unfolding(cylinder::specs::Search::sum_bounds))]
+    pub fn sum(self, more: u64) -> Bounds
+        requires { more ≤ 95 }
+        ensures { as_pair result ≡ sum_of more self.shell.cylinder self.loads }
+    {
+        let t = self.in_millionths();
+        Bounds {
+            low: (t.low / 100).min(20000),
+            high: (t.high + more).div_ceil(100).min(20000),
+        }
     }
 }
 
-// L and U of a cylinder under three stresses from the places of S, with some millionths more on the high side.
-pub fn sum_at(
-    roots: &Roots,
-    s: ValidCylinder,
-    spots: ByStress<Option<Spot>>,
-    loads: ByStress<Load>,
-    more: u64,
-) -> Bounds
-    requires { (more ≤ 95) × SpotsLoaded s.cylinder loads spots }
-    ensures { as_pair result ≡ sum_of more s.cylinder loads }
-{
-    let t = in_millionths(roots, s, spots, loads);
-    Bounds {
-        low: u64::min(20000, t.low / 100),
-        high: u64::min(20000, (t.high + more + 99) / 100),
-    }
-}
-
-// The same for a single load.
+// L and U of a cylinder under three stresses, with some millionths more on the high side. Its one caller adds none; `more`
+// stays, since PROMISES 23.4 has the equation with `sum_bounds` as it was.
 pub fn of_sum(s: ValidCylinder, loads: ByStress<Load>, more: u64) -> Bounds
     requires { more ≤ 95 }
     ensures { as_pair result ≡ sum_of more s.cylinder loads }
 {
-    let roots = Roots::new();
-    let spots = spots_for(&roots, s, loaded(loads));
-    sum_at(&roots, s, spots, loads, more)
+    let case = Case {
+        shell: s,
+        spots: spots_for(s, loaded(loads)),
+        loads,
+    };
+    case.sum(more)
 }

@@ -25,6 +25,22 @@ use pressure::Order;
 use record::{Group, Record, Ring, Wall};
 use writer::write;
 
+// The wall of a call's numbers.
+fn wall_from(r: u64, t: u64, l: u64, e: u64, fy: u64, edges: u64, a: u64, d: u64) -> Wall
+    ensures { result ≡ (record_of r t l e fy edges a 0 (Stress 0) 0 d).wall }
+{
+    Wall {
+        radius: r,
+        thickness: t,
+        length: l,
+        modulus: e,
+        yield_stress: fy,
+        edges,
+        imperfection: a,
+        shortfall: d,
+    }
+}
+
 // The record of a call's numbers, without a pressure inside.
 fn record_from(
     r: u64,
@@ -41,16 +57,7 @@ fn record_from(
 ) -> Record
     ensures { result ≡ record_of r t l e fy edges a sx ring tau d }
 {
-    let wall = Wall {
-        radius: r,
-        thickness: t,
-        length: l,
-        modulus: e,
-        yield_stress: fy,
-        edges,
-        imperfection: a,
-        shortfall: d,
-    };
+    let wall = wall_from(r, t, l, e, fy, edges, a, d);
     let group = Group {
         axial: sx,
         ring,
@@ -235,7 +242,7 @@ pub extern "C" fn shell_write_wind_inner(
     write_record(out, bare.under(Some(p)))
 }
 
-// The pressure inside, or none where there is no group for it.
+// The pressure inside, or none where there is no group for it: a flag and a value, as the C interface has them.
 fn inner_of(has: u64, p: u64) -> Option<u64>
     ensures { result ≡ inner_from has p }
 {
@@ -245,7 +252,7 @@ fn inner_of(has: u64, p: u64) -> Option<u64>
     Some(p)
 }
 
-// The load cases of a list of numbers, none where it is no list of them.
+// The load cases of a list of numbers, none where it is no list of them: the writer looks at the room first, and then refuses none.
 fn groups_of(numbers: &[u64]) -> Groups
     ensures { result ≡ first_from numbers.now (count_of (length numbers.now)) }
 {
@@ -271,18 +278,8 @@ pub extern "C" fn shell_write_cases(
     ensures number_of_writing { NumberOfWriting (cases_from r t l e fy edges a d (groups_from groups.now) (inner_from has p)) out.old out.new result }
     ensures fact { ◌≡◌ {A = ℕ × List ℕ} (result, out.new) (numbered (writing (cases_from r t l e fy edges a d (groups_from groups.now) (inner_from has p)) out.old)) }
 {
-    let wall = Wall {
-        radius: r,
-        thickness: t,
-        length: l,
-        modulus: e,
-        yield_stress: fy,
-        edges,
-        imperfection: a,
-        shortfall: d,
-    };
     let c = Cases {
-        wall,
+        wall: wall_from(r, t, l, e, fy, edges, a, d),
         groups: groups_of(groups),
         inner: inner_of(has, p),
     };

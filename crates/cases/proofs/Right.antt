@@ -7,7 +7,7 @@ use mathlib.Core.List.{List, [], ◌∷◌}
 use Prim.Native.Nat.{ℕ, zero, suc, ◌+◌, ◌-◌, ◌≤◌, ◌<◌}
 use native.Mathlib.Omega.{arith}
 use lib.ListN.{length}
-use lib.Dec.{lit≤, lit<}
+use lib.Dec.{lit<}
 use Rattle.pressure.specs.declared.Order.{Order}
 use Rattle.algebra.proofs.Tests.{and_true, both_true}
 use Rattle.std.specs.Prelude.{Option, Ok, Err}
@@ -20,7 +20,7 @@ use Rattle.answer.specs.Governing.{severity_of, governing}
 use Rattle.answer.specs.Checks.{Check, check, FirstBroken, AllPassed}
 use Rattle.answer.specs.Right.{AsCase, refused, judged}
 use Rattle.answer.specs.Answering.{first_or, refusal_by, of_case, Bounded}
-use Rattle.answer.proofs.Checks.{Among, Every, among_every, refusals, first_or_lem, first_broken, all_passed, refusal_broken}
+use Rattle.answer.proofs.Checks.{Among, Every, refusals, first_or_lem, first_broken, all_passed, refusal_broken}
 use Rattle.answer.proofs.Right as answers
 use Rattle.answer.proofs.Governing.{All, Numbered, LessBefore, governing_either, governing_first, governing_worst, governing_before, severity_fails, severity_holds}
 use Rattle.record.specs.declared.Wall.{Wall}
@@ -29,7 +29,7 @@ use Rattle.record.specs.declared.Record.{Record}
 use Rattle.record.specs.Limits.{dimensions, material, stresses, edges_known, shortfall_allowed, wall_ratio, length_ratio, tolerated, wind_allowed, pressure_allowed, checks}
 use Rattle.record.specs.Right.{Bounds, Right, MeansFor}
 use Rattle.record.specs.Answering.{judgement_of_record, record_answer}
-use Rattle.record.proofs.Right.{bounds_right, verdict_means, holds_at_most}
+use Rattle.record.proofs.Right.{record_refusals, record_range, bounds_right, verdict_means, holds_at_most}
 use Rattle.cases.specs.Cases.{LoadCases, alone, every, case_checks, EachJudged, Governs, RightCases, At, MeansCases}
 use Rattle.cases.specs.Answering.{judgements, governs, cases_answer}
 use Rattle.cases.proofs.Checks.{stands_some, stands_refused}
@@ -342,13 +342,11 @@ module _ (o : Order) where
 
   module _ (c : LoadCases) where
     -- no other refusal than that of a record
-    pub cases_meets : (n : Refusal) → RightCases o c (Err n) → Among n
-        (Refusal.Range ∷ Refusal.Edges ∷ Refusal.Shortfall ∷ Refusal.WallRatio ∷ Refusal.LengthRatio ∷ Refusal.Imperfection ∷ Refusal.Wind ∷ Refusal.Pressure ∷ [])
+    pub cases_meets : (n : Refusal) → RightCases o c (Err n) → Among n record_refusals
     cases_meets n r = answers.refused_among (case_checks c) (Governs o c) n r
 
     pub cases_range : (n : Refusal) → RightCases o c (Err n) → (6 ≤ refusal_number n) × (refusal_number n ≤ 16)
-    cases_range n r = among_every (λ m. (6 ≤ refusal_number m) × (refusal_number m ≤ 16)) (refusals (case_checks c)) n (cases_meets n r)
-        ((lit≤ tt, lit≤ tt), ((lit≤ tt, lit≤ tt), ((lit≤ tt, lit≤ tt), ((lit≤ tt, lit≤ tt), ((lit≤ tt, lit≤ tt), ((lit≤ tt, lit≤ tt), ((lit≤ tt, lit≤ tt), ((lit≤ tt, lit≤ tt), tt))))))))
+    cases_range n r = record_range n (cases_meets n r)
 
     -- L, U and the case fit the number of an answer
     pub cases_bounded : length c.groups ≤ 8 → (a : Answer) → RightCases o c a → Bounded a

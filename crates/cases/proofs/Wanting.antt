@@ -3,7 +3,7 @@ use mathlib.Core.Path.{◌≡◌, refl, sym, ap, ◌∙◌, subst}
 use mathlib.Core.Bool.{Bool, true, false, ◌||◌}
 use mathlib.Core.Logic.{◌⊎◌, inl, inr, ⊎_elim}
 use mathlib.Core.List.{List, [], ◌∷◌, ◌++◌}
-use Prim.Native.Nat.{ℕ, zero, suc, ◌+◌, ◌<◌}
+use Prim.Native.Nat.{ℕ, zero, suc, ◌+◌, ◌≤◌, ◌<◌}
 use native.Mathlib.Numerals.{add-one}
 use native.Mathlib.Omega.{arith}
 use lib.ListN.{length, take, get_or}
@@ -13,7 +13,10 @@ use borrow.Author.Tests.{lt-ltb}
 use Rattle.cylinder.specs.declared.ByStress.{ByStress}
 use Rattle.record.specs.declared.Group.{Group}
 use Rattle.record.specs.Answering.{has_ring}
-use Rattle.cases.specs.Cases.{At}
+use Rattle.answer.specs.Checks.{AllPassed}
+use Rattle.record.specs.Limits.{checks}
+use Rattle.cases.specs.Cases.{LoadCases, alone, case_checks, At}
+use Rattle.cases.proofs.Right.{alone_passed}
 use Rattle.cases.specs.Answering.{no_group, WantedFor, WantedBy}
 
 -- a group of a list with one more is one of the list, or that one
@@ -61,3 +64,7 @@ pub there_at : (gs : List Group) (i : ℕ) → i < length gs → At gs i (get_or
 there_at [] i none = absurd (omega arith)
 there_at (g ∷ gs) zero _ = refl
 there_at (g ∷ gs) (suc i) there = there_at gs i (omega arith)
+
+-- where a line breaks no check, its first load case breaks none on a line of its own
+pub first_passed : (c : LoadCases) → 1 ≤ length c.groups → AllPassed (case_checks c) → AllPassed (checks (alone c (get_or c.groups 0 no_group)))
+first_passed c some all = alone_passed c all 0 (get_or c.groups 0 no_group) (there_at c.groups 0 some)

@@ -1,62 +1,71 @@
--- What governs load cases, one after the other. Assumes nothing.
-use mathlib.Core.Path.{◌≡◌, refl, sym, ap, ◌∙◌}
-use mathlib.Core.List.{List, [], ◌∷◌, ◌++◌}
+-- The loop over load cases that breaks no check: what is judged so far, with what is left, is what governs. Assumes nothing.
+use mathlib.Core.Path.{◌≡◌, refl, sym, ap, ◌∙◌, subst}
+use mathlib.Core.List.{List, [], ◌∷◌}
 use Prim.Native.Nat.{ℕ, suc, ◌+◌, ◌≤◌, ◌<◌}
 use native.Mathlib.Numerals.{add-one}
 use native.Mathlib.Omega.{arith}
-use lib.ListN.{length, take, get_or}
-use lib.Seq.{take-suc, length-take-le}
+use lib.ListN.{length, drop, get_or}
+use Rattle.std.proofs.lemmas.List.{nil_from_length}
 use Rattle.pressure.specs.declared.Order.{Order}
 use Rattle.answer.specs.declared.Judgement.{Judgement}
 use Rattle.answer.specs.Governing.{worse_of, governing}
+use Rattle.answer.specs.Checks.{AllPassed}
 use Rattle.answer.specs.Answering.{of_case}
 use Rattle.record.specs.declared.Group.{Group}
-use Rattle.record.specs.Answering.{judgement_of_record}
-use Rattle.cases.specs.Cases.{LoadCases, alone}
+use Rattle.record.specs.declared.Record.{Record}
+use Rattle.record.specs.Limits.{checks}
+use Rattle.record.specs.Answering.{judgement_of_record, WorkedOn}
+use Rattle.line_bounds.specs.declared.Worked.{Worked}
+use Rattle.cases.specs.Cases.{LoadCases, alone, case_checks, At}
 use Rattle.cases.specs.Answering.{no_group, judgements, governs}
+use Rattle.cases.proofs.Right.{alone_passed}
 
-governing_next : (j : Judgement) (js : List Judgement) (k : Judgement) → governing j (js ++ (k ∷ [])) ≡ worse_of (governing j js) k
-governing_next j [] k = refl
-governing_next j (i ∷ is) k = governing_next (worse_of j i) is k
+module _ (o : Order) (c : LoadCases) (w : Worked) where
+  -- a load case breaks no check, and what it needs has been worked
+  abbrev pub Ready : Record → Type 0
+  Ready r = AllPassed (checks r) × WorkedOn o r w
 
-governs_next : (js : List Judgement) (k : Judgement) → 0 < length js → governs (js ++ (k ∷ [])) ≡ worse_of (governs js) k
-governs_next [] k none = absurd (omega arith)
-governs_next (j ∷ js) k some = governing_next j js k
+  -- to finish from here is to do the whole; what is left is numbered from k on
+  pub record Here (worst : Judgement) (k : ℕ) (left : List Group) : Type 0 where
+    pub next : governing worst (judgements o c k left) ≡ governs (judgements o c 1 c.groups)
+    pub ready : (m : ℕ) (g : Group) → At left m g → Ready (alone c g)
+    pub counted : k + length left ≤ 10
 
-module _ (o : Order) (c : LoadCases) where
-  judgements_next : (n : ℕ) (gs : List Group) (g : Group) → judgements o c n (gs ++ (g ∷ [])) ≡ judgements o c n gs ++ (of_case (n + length gs) (judgement_of_record o (alone c g)) ∷ [])
+  pub all_ready : AllPassed (case_checks c) → ((m : ℕ) (g : Group) → At c.groups m g → WorkedOn o (alone c g) w) → (m : ℕ) (g : Group) → At c.groups m g → Ready (alone c g)
+  all_ready all works m g at = (alone_passed c all m g at, works m g at)
+
+  pub here_first : ((m : ℕ) (g : Group) → At c.groups m g → Ready (alone c g)) → 0 < length c.groups → length c.groups ≤ 8 →
+      (worst : Judgement) → worst ≡ judgement_of_record o (alone c (get_or c.groups 0 no_group)) → (k : ℕ) → k ≡ 2 → (left : List Group) → left ≡ drop 1 c.groups → Here worst k left
   unfolding judgements
-  judgements_next n [] g = ap (λ (m : ℕ). of_case m (judgement_of_record o (alone c g)) ∷ []) (plus_none n)
+  here_first all some few worst first k two left rest = go c.groups refl some
     where
-      plus_none : (n : ℕ) → n ≡ n + 0
-      plus_none n = omega arith
-  judgements_next n (h ∷ hs) g =
-      ap (λ (l : List Judgement). of_case n (judgement_of_record o (alone c h)) ∷ l)
-      (judgements_next (suc n) hs g ∙ ap (λ (m : ℕ). judgements o c (suc n) hs ++ (of_case m (judgement_of_record o (alone c g)) ∷ [])) (shift n (length hs)))
-    where
-      shift : (n m : ℕ) → suc n + m ≡ n + suc m
-      shift n m = omega arith
+      go : (gs : List Group) → c.groups ≡ gs → 0 < length gs → Here worst k left
+      go [] e none = absurd (omega arith)
+      go (g ∷ gs) e _ =
+          rw (rest ∙ ap (drop 1) e, two)
+          (record {
+            next =
+                ap (λ (j : Judgement). governing j (judgements o c 2 gs)) (first ∙ ap (λ (l : List Group). judgement_of_record o (alone c (get_or l 0 no_group))) e)
+                ∙ ap (λ (l : List Group). governs (judgements o c 1 l)) (sym e);
+            ready = λ m h at. all (suc m) h (subst (λ (l : List Group). At l (suc m) h) (sym e) at);
+            counted = omega (arith, ap length e);
+          })
 
-  same_length : (n : ℕ) (gs : List Group) → length (judgements o c n gs) ≡ length gs
-  unfolding judgements
-  same_length n [] = refl
-  same_length n (g ∷ gs) = ap suc (same_length (suc n) gs)
+  module _ (worst : Judgement) (k : ℕ) (left : List Group) (here : Here worst k left) where
+    pub here_turn : (g : Group) (after : List Group) → left ≡ g ∷ after → (n : ℕ) → n ≡ k → (next : ℕ) → next ≡ n + 1 →
+        (r : Judgement) → r ≡ worse_of worst (of_case n (judgement_of_record o (alone c g))) → Here r next after
+    unfolding judgements
+    here_turn g after steps n same next more r is =
+        rw (is, more ∙ add-one n, same)
+        (record {
+          next = ap (λ (l : List Group). governing worst (judgements o c k l)) (sym steps) ∙ here.next;
+          ready = λ m h at. here.ready (suc m) h (rw steps at);
+          counted = omega (arith, here.counted, ap length steps);
+        })
 
-  pub governs_start : (gs : List Group) → 0 < length gs → judgement_of_record o (alone c (get_or gs 0 no_group)) ≡ governs (judgements o c 1 (take 1 gs))
-  unfolding judgements
-  governs_start [] none = absurd (omega arith)
-  governs_start (g ∷ gs) _ = refl
+    pub here_ready : (g : Group) (after : List Group) → left ≡ g ∷ after → (r : Record) → r ≡ alone c g → Ready r
+    here_ready g after steps r is = subst Ready (sym is) (here.ready 0 g (rw steps refl))
 
-  pub governs_step : (gs : List Group) (i : ℕ) → 1 ≤ i → i < length gs →
-      worse_of (governs (judgements o c 1 (take i gs))) (of_case (i + 1) (judgement_of_record o (alone c (get_or gs i no_group)))) ≡ governs (judgements o c 1 (take (i + 1) gs))
-  governs_step gs i some there =
-      ap (λ (n : ℕ). worse_of (governs (judgements o c 1 (take i gs))) (of_case n (judgement_of_record o (alone c (get_or gs i no_group))))) (count i (length (take i gs)) long)
-      ∙ sym (governs_next (judgements o c 1 (take i gs)) (of_case (1 + length (take i gs)) (judgement_of_record o (alone c (get_or gs i no_group)))) (omega (arith, same_length 1 (take i gs), long, some)))
-      ∙ ap governs (sym (judgements_next 1 (take i gs) (get_or gs i no_group)))
-      ∙ ap (λ (l : List Group). governs (judgements o c 1 l)) (sym (ap (λ (n : ℕ). take n gs) (add-one i) ∙ take-suc gs i no_group there))
-    where
-      long : length (take i gs) ≡ i
-      long = length-take-le i gs (omega arith)
-
-      count : (i n : ℕ) → n ≡ i → i + 1 ≡ 1 + n
-      count i n e = omega (arith, e)
+    pub here_end : length left ≡ 0 → worst ≡ governs (judgements o c 1 c.groups)
+    unfolding judgements
+    here_end none = ap (λ (l : List Group). governing worst (judgements o c k l)) (sym (nil_from_length left none)) ∙ here.next

@@ -1,15 +1,16 @@
 // The stress groups of one line, up to eight.
 
-ghost use Rattle.std.specs.Prelude.{◌≡◌, ◌≤◌, ◌<◌, List, [], ◌∷◌, ◌++◌, length, take};
+ghost use Rattle.std.specs.Prelude.{◌≡◌, ◌≤◌, ◌<◌, List, [], ◌∷◌, ◌++◌, length, take, eqb};
 ghost use Rattle.record.specs.declared.Group.{Group};
 
 use record::Group;
 use std::marker::Model;
 
-// A list of groups that never allocates: the first `count` of the places. (`ArrayVec` would ask for a group by default, and there is none.)
+// A list of groups that never allocates: the first `count` of the places. (`ArrayVec` has a record with a field of items for its value, so each definition
+// that reads the groups would name that field. It asks for a `Default` of Group besides.)
 #[derive(Drop)]
 pub struct Groups {
-    places: [Group; 8],
+    places: [Group; Self::MOST],
     count: usize,
 }
 
@@ -29,12 +30,12 @@ impl Groups {
         ensures { result ≡ [] }
     {
         Groups {
-            places: [Group::NONE; 8],
+            places: [Group::NONE; Self::MOST],
             count: 0,
         }
     }
 
-    // How many there are.
+    // How many there are. The library asks `is_empty` or takes the slice; it stays for callers, to whom it was promised.
     pub fn len(&self) -> usize
         ensures value { result ≡ length self.now }
         ensures upper_bound { result ≤ 8 }
@@ -42,7 +43,16 @@ impl Groups {
         self.as_slice().len()
     }
 
-    // The groups in their order.
+    // Whether there are none.
+    pub fn is_empty(&self) -> bool
+        ensures value { result ≡ eqb (length self.now) 0 }
+        ensures upper_bound { length self.now ≤ 8 }
+    {
+        self.count == 0
+    }
+
+    // The groups in their order. That there are at most eight is said by `len`, `is_empty` and this one: whoever calls one knows it, where the value alone
+    // does not show it.
     pub fn as_slice(&self) -> &[Group]
         ensures value { result.now ≡ self.now }
         ensures upper_bound { length result.now ≤ 8 }

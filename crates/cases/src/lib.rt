@@ -13,16 +13,15 @@ ghost use Rattle.cases.specs.Answering.{ListedOf, load_cases, no_group, Counted,
 
 use answer::{Answer, Judgement, Refusal};
 use cylinder::ByStress;
-use guess::Roots;
 use line_bounds::Worked;
 use pressure::Order;
-use record::{Group, Record, Ring, Wall};
+use record::{Group, Record, Ring, ValidRecord, Wall};
 
 mod group_list;
 
 pub use group_list::Groups;
 
-// A shell with its load cases.
+// A shell with its load cases. There may be none, and `answer`, which needs one, says so: a call that writes a line may give none, and the writer refuses it.
 #[derive(Drop)]
 pub struct Cases {
     pub wall: Wall,
@@ -69,7 +68,8 @@ impl Cases {
         }
     }
 
-    // The load case at place i on a line of its own; one without stress where there is none.
+    // The load case at place i on a line of its own; one without stress where there is none. `first` reads it at 0 alone; that it answers for any place
+    // is a promise to callers.
     pub fn case_at(&self, i: usize) -> Record
         ensures { result ≡ alone (load_cases self.now) (get_or self.now.groups i no_group) }
     {
@@ -94,11 +94,7 @@ impl Cases {
         ensures { WantedBy self.now.groups result }
     {
         let groups = self.groups.as_slice();
-        let mut all = ByStress {
-            axial: false,
-            ring: false,
-            shear: false,
-        };
+        let mut all = ByStress::default();
         for g in groups {
             let more = g.wanted();
             all.axial |= more.axial;
@@ -108,32 +104,6 @@ impl Cases {
         all
     }
 
-    // What depends on the wall alone, worked once for all load cases.
-    fn worked(&self, o: Order, roots: &Roots) -> Worked
-        requires { Counted self.now × AllPassed (case_checks (load_cases self.now)) }
-        ensures { (m : ℕ) (g : Group) → At self.now.groups m g → WorkedOn o (alone (load_cases self.now) g) result }
-    {
-        let c = self.case_at(0);
-        line_bounds::work(roots, o, c.cylinder(), c.pressure(), self.wanted())
-    }
-
-    // The judgement that governs load cases that break no check.
-    fn judgement(&self, o: Order) -> Judgement
-        requires { Counted self.now × AllPassed (case_checks (load_cases self.now)) }
-        ensures { result ≡ governs (judgements o (load_cases self.now) 1 self.now.groups) }
-    {
-        let roots = Roots::new();
-        let w = self.worked(o, &roots);
-        let first = self.case_at(0);
-        let mut worst = first.judgement_by(o, &roots, w);
-        for i in 1..self.groups.len() {
-            let next = self.case_at(i);
-            let judged = next.judgement_by(o, &roots, w);
-            worst = worst.or_worse(judged.of_case(i as u64 + 1));
-        }
-        worst
-    }
-
     // The answer to the load cases, by a reading of the pressure's test: the refusal of the first check that they break, or the judgement that governs.
     pub fn answer(&self, o: Order) -> Answer
         requires { Counted self.now }
@@ -141,7 +111,7 @@ impl Cases {
         ensures right_cases { RightCases o (load_cases self.now) result }
     {
         self.check()?;
-        Ok(self.judgement(o))
+        Ok(ValidCases { given: self }.judgement(o))
     }
 
     // Ok, or the refusal of the first check that the load cases break.
@@ -152,7 +122,50 @@ impl Cases {
     }
 }
 
-// A ring stress, or wind where the kind is not 0.
+// Load cases, one at least, that break no check.
+#[derive(Clone, Copy)]
+struct ValidCases<'a> {
+    given: &'a Cases,
+    ghost counted: { Counted given.now },
+    ghost passed: { AllPassed (case_checks (load_cases given.now)) },
+}
+
+impl ValidCases<'_> {
+    // The first load case.
+    fn first(self) -> ValidRecord
+        ensures { result.given ≡ alone (load_cases self.entry.given.now) (get_or self.entry.given.now.groups 0 no_group) }
+    {
+        ValidRecord {
+            given: self.given.case_at(0),
+        }
+    }
+
+    // What depends on the wall and the pressure alone, worked once for all load cases.
+    #[tactic(auto, using(crate::proofs::Wanting::first_passed))]
+    fn worked(self, o: Order) -> Worked
+        ensures { (m : ℕ) (g : Group) → At self.entry.given.now.groups m g → WorkedOn o (alone (load_cases self.entry.given.now) g) result }
+    {
+        self.first().pressed(o).work(self.given.wanted())
+    }
+
+    // The judgement that governs. The load cases are numbered from 1, in the order of the line.
+    fn judgement(self, o: Order) -> Judgement
+        ensures { result ≡ governs (judgements o (load_cases self.entry.given.now) 1 self.entry.given.now.groups) }
+    {
+        let w = self.worked(o);
+        let mut worst = self.first().judgement_by(o, w);
+        for (group, k) in self.given.groups.as_slice()[1..].iter().zip(2..) {
+            let next = ValidRecord {
+                given: self.given.alone(*group),
+            };
+            let judged = next.judgement_by(o, w);
+            worst = worst.or_worse(judged.of_case(k));
+        }
+        worst
+    }
+}
+
+// A ring stress, or wind where the kind is not 0. The kind is a number as the C interface has it; from here on it is a Ring.
 fn ring_of(kind: u64, x: u64, y: u64) -> Ring
     ensures { result ≡ ring_from kind x y }
 {
@@ -162,29 +175,29 @@ fn ring_of(kind: u64, x: u64, y: u64) -> Ring
     Ring::Wind(x, y)
 }
 
-// The load case at place i of a list.
-fn group_of(numbers: &[u64], i: usize) -> Group
-    requires { (i < 8) × (5 * i + 5 ≤ length numbers.now) }
-    ensures { result ≡ group_from numbers.now i }
+// The load case of five numbers.
+fn group_of(five: &[u64; 5]) -> Group
+    ensures { result ≡ group_from five.now 0 }
 {
-    let at = 5 * i;
-    let axial = numbers[at];
-    let ring = ring_of(numbers[at + 1], numbers[at + 2], numbers[at + 3]);
-    let shear = numbers[at + 4];
-    Group { axial, ring, shear }
+    let [axial, kind, x, y, shear] = *five;
+    Group {
+        axial,
+        ring: ring_of(kind, x, y),
+        shear,
+    }
 }
 
 // The load cases of a list of numbers, five for each; none, where they are not 1 to 8, or the numbers are not in fives.
 pub fn list_of(numbers: &[u64]) -> Option<Groups>
     ensures { ListedOf numbers.now result }
 {
-    let n = numbers.len();
-    if n == 0 || 40 < n || n % 5 != 0 {
+    let (fives, rest) = numbers.as_chunks::<5>();
+    if fives.is_empty() || Groups::MOST < fives.len() || !rest.is_empty() {
         return None;
     }
     let mut groups = Groups::new();
-    for i in 0..n / 5 {
-        groups.push(group_of(numbers, i));
+    for five in fives {
+        groups.push(group_of(five));
     }
     Some(groups)
 }

@@ -154,7 +154,7 @@ module _ (s : Cylinder) (ok : Sound s) where
       go false false = record { m = 4; k = 1; m_pos = lit< tt; k_pos = lit< tt; num = refl; den = refl }
 
   -- the length tests
-  axial_short_lem : axial_short s ≡ WholeIdeal.axial_is_short s
+  pub axial_short_lem : axial_short s ≡ WholeIdeal.axial_is_short s
   axial_short_lem =
       at_most_lem (power l/r-like 2) (again (times (power (self 5 10) 2) r/t-like) 1 100 (50 * s.radius) s.wall (lit< tt) (lit< tt) (omega arith) (omega arith))
       ∙ ap (leb (s.length ^ 2 * s.wall)) (cubed 50 s.radius)

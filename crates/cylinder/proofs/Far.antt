@@ -29,17 +29,21 @@ squares X Y a b Z r w x y thick lt zpos wpos =
     ))
 
 module _ (s : Cylinder) (ok : Sound s) where
+  -- below 7 even
+  axial_short_less : 16000000 * s.radius * s.length ^ 2 * s.yield_stress * 1 ^ 2 < 7 ^ 2 * (121 * s.modulus * s.wall * (400 * s.length ^ 2 + 3 * s.radius * s.wall))
+  axial_short_less =
+      omega (
+        arith,
+        mul-le-mul_left (s.length ^ 2) (mul-le-mul ok.thick ok.soft),
+        mul-le-mul_left (s.wall * s.length ^ 2) ok.modulus,
+        mul-pos ok.wall (one-le-pow 2 s.length ok.length),
+      )
+
+  pub axial_short_7 : (axial_short_cut s).reaches 7 1 ≡ false
+  axial_short_7 = lt-leb _ _ axial_short_less
+
   axial_short_far : (axial_short_cut s).reaches 536 1 ≡ false
-  axial_short_far = lt-leb _ _ less
-    where
-      less : 16000000 * s.radius * s.length ^ 2 * s.yield_stress * 1 ^ 2 < 536 ^ 2 * (121 * s.modulus * s.wall * (400 * s.length ^ 2 + 3 * s.radius * s.wall))
-      less =
-          omega (
-            arith,
-            mul-le-mul_left (s.length ^ 2) (mul-le-mul ok.thick ok.soft),
-            mul-le-mul_left (s.wall * s.length ^ 2) ok.modulus,
-            mul-pos ok.wall (one-le-pow 2 s.length ok.length),
-          )
+  axial_short_far = lt-leb _ _ (omega (arith, axial_short_less))
 
   axial_long_far : (axial_long_cut s).reaches 536 1 ≡ false
   axial_long_far = missed_right ((axial_bent s).reaches (536 ^ 2) (1 ^ 2)) _ (lt-leb _ _ less)

@@ -114,27 +114,26 @@ module _ (Branch : Type 0) (branch : Number → Branch) (S : Number) (c : Cut) (
         close = w.close;
       }
 
-  bracket : (q : ℕ) → (0 < σ.num → Bracket (Attains c In t) (around (most t (place c q) q)).low (around (most t (place c q) q)).high) →
+  bracket : (q : ℕ) → c.reaches (place c q + 1) q ≡ false → t.rise ≢ 0 → (0 < σ.num → Fit c In t (place c q) q) →
       Bracket R (term_bounds q σ.num c t).low (term_bounds q σ.num c t).high
   unfolding term_bounds
-  bracket q fit = go σ.num refl
+  bracket q out nz fit = go σ.num refl
     where
       go : (x : ℕ) → σ.num ≡ x → Bracket R (term_bounds q x c t).low (term_bounds q x c t).high
       go zero e = nothing e
-      go (suc x) e = let pos : 0 < σ.num = omega arith in something _ _ pos (fit pos)
+      go (suc x) e = let pos : 0 < σ.num = omega arith in something _ _ pos (fit_bracket c In t (place c q) q (fit pos) out nz)
 
+-- each stress by itself: one lemma for two of them names all in which they differ, and takes as many lines as it saves
 pub axial_bracket : (s : Cylinder) → Sound s → (σ : Fraction) →
     Bracket (AxialReaches s σ) (axial_bounds s σ).low (axial_bounds s σ).high
 axial_bracket s ok σ =
     let c : Cut = WholeIdeal.axial_cut s in
     let at = placed c (axial_lawful s ok) (axial_far s ok) in
     bracket Branch2 branch2 (axial_s s) c (axial_agree s ok) (branch2_agree (axial_s s) c (axial_agree s ok)) σ (axial_term s σ) (axial_test s σ)
-    (λ p q b n same. axial_test_lem s ok.imperfect c p q σ b n same) (grid c)
+    (λ p q b n same. axial_test_lem s ok.imperfect c p q σ b n same) (grid c) at.missed (omega arith)
     (λ pos.
-    fit_bracket c _ (axial_term s σ) (place c (grid c)) (grid c)
-    (fit2 c (axial_lawful s ok) (place c (grid c)) (grid c) _ at (excess s) 4 5 ((10000 * s.yield_stress * σ.den) ^ 5) ((11 * σ.num) ^ 5) (omega arith)
+    fit2 c (axial_lawful s ok) (place c (grid c)) (grid c) _ at (excess s) 4 5 ((10000 * s.yield_stress * σ.den) ^ 5) ((11 * σ.num) ^ 5) (omega arith)
     (one-le-pow 5 (11 * σ.num) (omega arith)) (lit≤ tt))
-    at.missed (omega arith))
 
 pub ring_bracket : (s : Cylinder) → Sound s → (σ : Fraction) →
     Bracket (RingReaches s σ) (ring_bounds s σ).low (ring_bounds s σ).high
@@ -142,12 +141,10 @@ ring_bracket s ok σ =
     let c : Cut = WholeIdeal.ring_cut s in
     let at = placed c (ring_lawful s ok) (ring_far s ok) in
     bracket Branch1 branch1 (ring_s s) c (ring_agree s ok) (branch1_agree (ring_s s) c (ring_agree s ok)) σ (ring_term s σ) (ring_test s σ)
-    (λ p q b n same. ring_test_lem s ok.imperfect c p q σ b n) (grid c)
+    (λ p q b n same. ring_test_lem s ok.imperfect c p q σ b n) (grid c) at.missed (omega arith)
     (λ pos.
-    fit_bracket c _ (ring_term s σ) (place c (grid c)) (grid c)
-    (fit1 c (ring_lawful s ok) (place c (grid c)) (grid c) _ at (excess s) 4 5 ((10000 * s.yield_stress * σ.den) ^ 5) ((11 * σ.num) ^ 5) (omega arith)
+    fit1 c (ring_lawful s ok) (place c (grid c)) (grid c) _ at (excess s) 4 5 ((10000 * s.yield_stress * σ.den) ^ 5) ((11 * σ.num) ^ 5) (omega arith)
     (one-le-pow 5 (11 * σ.num) (omega arith)) (lit≤ tt))
-    at.missed (omega arith))
 
 pub shear_bracket : (s : Cylinder) → Sound s → (τ : Fraction) →
     Bracket (ShearReaches s τ) (shear_bounds s τ).low (shear_bounds s τ).high
@@ -155,12 +152,10 @@ shear_bracket s ok τ =
     let c : Cut = WholeIdeal.shear_cut s in
     let at = placed c (shear_lawful s ok) (shear_far s ok) in
     bracket Branch1 branch1 (shear_s s) c (shear_agree s ok) (branch1_agree (shear_s s) c (shear_agree s ok)) τ (shear_term s τ) (shear_test s τ)
-    (λ p q b n same. shear_test_lem s ok.imperfect c p q τ b n) (grid c)
+    (λ p q b n same. shear_test_lem s ok.imperfect c p q τ b n) (grid c) at.missed (omega arith)
     (λ pos.
-    fit_bracket c _ (shear_term s τ) (place c (grid c)) (grid c)
-    (fit1 c (shear_lawful s ok) (place c (grid c)) (grid c) _ at (excess s) 1 2 ((10000 * s.yield_stress * τ.den) ^ 2) (3 * (11 * τ.num) ^ 2) (omega arith)
+    fit1 c (shear_lawful s ok) (place c (grid c)) (grid c) _ at (excess s) 1 2 ((10000 * s.yield_stress * τ.den) ^ 2) (3 * (11 * τ.num) ^ 2) (omega arith)
     (mul-pos {m = 3} (lit< tt) (one-le-pow 2 (11 * τ.num) (omega arith))) (lit≤ tt))
-    at.missed (omega arith))
 
 -- ---- the sum
 

@@ -1,5 +1,5 @@
-// An unstiffened circular cylinder of constant wall, as DIN 18800-4 needs it. No code: specs/ says what its buckling check
-// is, and proofs/ what bounds of it are right.
+// An unstiffened circular cylinder of constant wall, as DIN 18800-4 needs it. Of code there are only the types: specs/ says
+// what its buckling check is, and proofs/ what bounds of it are right.
 #![tactic(auto)]
 
 ghost use Rattle.cylinder.specs.InLimits.{InLimits};
@@ -39,8 +39,9 @@ pub enum Stress {
     Shear,
 }
 
-// One of a kind for each stress.
-#[derive(Clone, Copy)]
+// One of a kind for each stress. No map: with its contract it would be longer than what it saves in `bounds::loaded` and `bounds::spots_for`, which alone
+// could use it.
+#[derive(Clone, Copy, Default)]
 pub struct ByStress<T> {
     pub axial: T,
     pub ring: T,

@@ -8,6 +8,7 @@ ghost use Rattle.format.specs.Seen.{passed, seen};
 use word::{next_word, number_of};
 
 // The bytes of `word`: what is left after them.
+#[tactic(auto, using(crate::proofs::Fixed::passed_prefix))]
 pub fn read_fixed<'a>(rest: &'a [u8], word: &[u8]) -> Option<&'a [u8]>
     ensures { passed result ≡ fixed word.now rest.now }
 {
@@ -15,6 +16,7 @@ pub fn read_fixed<'a>(rest: &'a [u8], word: &[u8]) -> Option<&'a [u8]>
 }
 
 // A number of at most 7 digits.
+#[tactic(auto, unfolding(crate::specs::Readers::number), using(text::proofs::Laws::up_to_le, text::proofs::Laws::part_from))]
 pub fn read_number(rest: &[u8]) -> Option<(u64, &[u8])>
     ensures { seen result ≡ number rest.now }
 {
@@ -27,6 +29,7 @@ pub fn read_number(rest: &[u8]) -> Option<(u64, &[u8])>
 }
 
 // The bytes of `word`, and then a number.
+#[tactic(auto, unfolding(crate::specs::Readers::sequence, crate::specs::Readers::changed))]
 pub fn read_number_after<'a>(rest: &'a [u8], word: &[u8]) -> Option<(u64, &'a [u8])>
     ensures { seen result ≡ before word.now number rest.now }
 {

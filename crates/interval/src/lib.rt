@@ -38,7 +38,8 @@ struct Pair {
     up: u64,
 }
 
-// Bounds of a u64. 0 has 64 leading zeros, and is not shifted: nothing is known of it.
+// Bounds of a u64. 0 has 64 leading zeros, and is not shifted: nothing is known of it. No From: `Interval::from(p)` says no more
+// than `interval::of(p)` beside `interval::times`, and its contract would go into a ghost function.
 pub fn of(x: u64) -> Interval
     ensures { Around result x }
 {
@@ -80,7 +81,7 @@ pub fn times(a: Interval, b: Interval) -> Interval
 }
 
 // Whether something is known of both, and both fit.
-fn fit(a: Interval, b: Interval) -> bool
+fn both_fit(a: Interval, b: Interval) -> bool
     ensures { result ≡ true → (0 < a.low) × (0 < b.low) × (Fits a) × (Fits b) }
 {
     0 < a.low && 0 < b.low && fits(a) && fits(b)
@@ -98,7 +99,7 @@ fn shifted(x: u64, s: u64) -> u64
 fn levelled(a: Interval, b: Interval) -> Option<Pair>
     ensures { IfSome result (Levelled a b) }
 {
-    if !fit(a, b) {
+    if !both_fit(a, b) {
         return None;
     }
     let s = b.up.saturating_sub(a.up) + 1;

@@ -2,8 +2,7 @@
 // bounds of the words multiplied.
 #![tactic(auto)]
 
-ghost use Rattle.std.specs.Prelude.{◌≡◌, true, ℕ, ◌*◌, ◌<◌};
-ghost use Rattle.wide.specs.Value.{base};
+ghost use Rattle.std.specs.Prelude.{ℕ, ◌*◌};
 ghost use Rattle.factors.specs.Product.{prod};
 ghost use Rattle.interval.specs.Around.{Around};
 ghost use Rattle.interval_product.specs.Bounds.{BoundsOf};
@@ -20,7 +19,8 @@ fn joined(n: Option<Interval>, w: u64) -> Interval
     }
 }
 
-// Bounds of x times the product of the factors of f. Factors are put together as long as they fit.
+// Bounds of x times the product of the factors of f, x being 1 where nothing stands before them. Factors are put together as long as they fit.
+// The exact number is `factor_product::product_of`: why there is no trait is said at `roots::reaches`.
 pub fn bounds_of(x: u64, f: &[u64]) -> Interval
     ensures { Around result (x * prod f.now) }
 {

@@ -7,7 +7,8 @@ ghost use Rattle.lengths.specs.Short.{short_of};
 
 use cylinder::{Stress, ValidCylinder};
 
-// A stress of a shell, on the short branch of its ideal stress or on the long one.
+// A stress of a shell, on the short branch of its ideal stress or on the long one. That the length test finds the branch is no
+// field of it: `ideal` and the grid promise their answers for either branch, and with that field would promise them for one.
 #[derive(Clone, Copy)]
 pub struct Branch {
     pub kind: Stress,
@@ -38,7 +39,7 @@ pub fn ring_edges(edges: u64) -> u64
 }
 
 // Whether l² w is at most k r³: the length test for axial stress, and that for shear.
-fn is_below(s: ValidCylinder, k: u64) -> bool
+fn is_up_to(s: ValidCylinder, k: u64) -> bool
     requires { k ≤ 20000 }
     ensures { result ≡ leb (s.cylinder.length ^ 2 * s.cylinder.wall) (k * s.cylinder.radius ^ 3) }
 {
@@ -47,7 +48,8 @@ fn is_below(s: ValidCylinder, k: u64) -> bool
     l * l * s.cylinder.wall <= k * r * r * r
 }
 
-// Whether the shell is short for ring stress: for a radius from 11,500 on it always is.
+// Whether the shell is short for ring stress. For a radius from 11,500 on it always is, and that is asked apart: for a large one the
+// right side below does not fit in 64 bits.
 fn ring_short(s: ValidCylinder) -> bool
     ensures { result ≡ ring_is_short s.cylinder }
 {
@@ -60,14 +62,14 @@ fn ring_short(s: ValidCylinder) -> bool
     800 * l * l * s.cylinder.wall <= 26569 * c * c * r * r * r
 }
 
-// Whether the shell is short for a stress.
+// Whether the shell is short for a stress: the length test by itself. The crates above ask for the branch that it finds.
 pub fn is_short(kind: Stress, s: ValidCylinder) -> bool
     ensures { result ≡ short_of kind s.cylinder }
 {
     match kind {
-        Stress::Axial => is_below(s, 50),
+        Stress::Axial => is_up_to(s, 50),
         Stress::Ring => ring_short(s),
-        Stress::Shear => is_below(s, 15138),
+        Stress::Shear => is_up_to(s, 15138),
     }
 }
 

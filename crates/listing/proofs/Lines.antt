@@ -4,7 +4,7 @@ use mathlib.Core.Path.{◌≡◌, refl, sym, ap, ◌∙◌}
 use Prim.Native.Nat.{ℕ, zero, suc, ◌+◌, ◌/◌, ◌%◌, ◌<◌}
 use native.Mathlib.Omega.{arith}
 use mathlib.Core.Bool.{Bool, true, false}
-use mathlib.Core.List.{List, [], ◌∷◌, ◌++◌, append_assoc}
+use mathlib.Core.List.{List, [], ◌∷◌, ◌++◌, append_assoc, append-nil}
 use lib.ListN.{length, get_or}
 use lib.Dec.{ltb}
 use borrow.Author.Tests.{ne_eqb}
@@ -93,10 +93,6 @@ total_plain c =
     plain_append (a4 ++ spaced c.refused) (ascii ")") (spaced_plain a4 c.refused h4) refl
 
 -- ---- the lines of a listing
-
-append-nil : (l : List ℕ) → l ++ [] ≡ l
-append-nil [] = refl
-append-nil (b ∷ l) = ap (λ (m : List ℕ). b ∷ m) (append-nil l)
 
 lines_joined : (k : ℕ) (xs : List Answer) (s : List ℕ) → lines (joined (entries k xs) ++ s) ≡ entries k xs ++ lines s
 unfolding joined entries

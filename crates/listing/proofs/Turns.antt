@@ -1,16 +1,14 @@
 -- A loop that puts the line for one answer after the other and counts them: where it stands, a turn, and its end.
 -- Assumes nothing.
 use mathlib.Core.Path.{◌≡◌, refl, sym, ap, ◌∙◌, subst}
-use Prim.Native.Nat.{ℕ, ◌+◌, ◌≤◌}
+use Prim.Native.Nat.{ℕ, ◌+◌}
 use native.Mathlib.Nat.{zero-add, add-zero}
 use native.Mathlib.Omega.{arith}
-use mathlib.Core.List.{List, [], ◌∷◌, ◌++◌, append_assoc}
+use mathlib.Core.List.{List, [], ◌∷◌, ◌++◌, append_assoc, append-nil}
 use lib.ListN.{length, length-append}
-use Rattle.std.specs.Borrow.{MutBor}
 use Rattle.algebra.specs.Choice.{pick}
 use Rattle.text.specs.declared.Page.{Page}
-use Rattle.text.specs.Slices.{put}
-use Rattle.text.specs.Pages.{Opens, Fits, Puts}
+use Rattle.text.specs.Pages.{Fits, Puts}
 use Rattle.text.proofs.Laws.{puts_none, puts_then, puts_as}
 use Rattle.answer.specs.Answers.{Answer}
 use Rattle.answer.specs.declared.Verdict.TheVariants.{Holds, Fails, Open}
@@ -129,11 +127,7 @@ module _ (whole : List Answer) (start page : Page) (c : Counts) where
 
     here_puts : Puts start (joined (entries 1 whole)) page
     unfolding joined entries
-    here_puts = puts_as (sym (append_nil done.bytes) ∙ done.next) done.puts
-      where
-        append_nil : (l : List ℕ) → l ++ [] ≡ l
-        append_nil [] = refl
-        append_nil (b ∷ l) = ap (λ (m : List ℕ). b ∷ m) (append_nil l)
+    here_puts = puts_as (sym (append-nil done.bytes) ∙ done.next) done.puts
 
     pub here_total : Fits start (listing_of whole) → Fits page (ended (total c))
     here_total room =
@@ -143,14 +137,3 @@ module _ (whole : List Answer) (start page : Page) (c : Counts) where
     pub here_listing : {page' : Page} → Puts page (ended (total c)) page' → Puts start (listing_of whole) page'
     unfolding listing_of
     here_listing {page'} w = puts_then here_puts (subst (λ (d : Counts). Puts page (ended (total d)) page') here_counts w)
-
--- on a page that is opened on a buffer
-module _ (buffer : MutBor (List ℕ)) (start : Page) (opens : Opens buffer start) (whole : List Answer) where
-  pub opened_fits : length (listing_of whole) ≤ length buffer.now → Fits start (listing_of whole)
-  opened_fits room = omega (arith, opens.at, ap length opens.out)
-
-  pub opened_out : {page : Page} → Puts start (listing_of whole) page → page.out.now ≡ put buffer.now 0 (listing_of whole)
-  opened_out w = w.out ∙ rw (opens.out, opens.at) refl
-
-  pub opened_at : {page : Page} → Puts start (listing_of whole) page → page.at ≡ length (listing_of whole)
-  opened_at w = omega (arith, w.at, opens.at)

@@ -1,11 +1,11 @@
-// The listing of SCOPE 8, and the counts of its answers.
+// The counts of the answers in a listing of SCOPE 8, which is defined in `specs/`.
 #![tactic(auto)]
 
 ghost use Rattle.std.specs.Prelude.{◌≡◌, ◌<◌};
 ghost use Rattle.listing.specs.Listing.{no_counts};
 ghost use Rattle.listing.specs.Counting.{with_answer};
 
-use answer::{Answer, Judgement, Verdict};
+use answer::{Answer, Verdict};
 
 // The five counts of a listing: of lines, and of the answers of each kind.
 #[derive(Clone, Copy, Default)]
@@ -18,7 +18,7 @@ pub struct Counts {
 }
 
 impl Counts {
-    // The counts before the first answer.
+    // The counts before the first answer. It is `default`, but that they are `no_counts`, by which the definitions go, is promised under this name.
     pub fn none() -> Self
         ensures { result ≡ no_counts }
     {
@@ -32,24 +32,11 @@ impl Counts {
     {
         self.lines += 1;
         match a {
-            Ok(
-                Judgement {
-                    verdict: Verdict::Holds,
-                    ..
-                },
-            ) => self.holds += 1,
-            Ok(
-                Judgement {
-                    verdict: Verdict::Fails,
-                    ..
-                },
-            ) => self.fails += 1,
-            Ok(
-                Judgement {
-                    verdict: Verdict::Open,
-                    ..
-                },
-            ) => self.opens += 1,
+            Ok(j) => match j.verdict {
+                Verdict::Holds => self.holds += 1,
+                Verdict::Fails => self.fails += 1,
+                Verdict::Open => self.opens += 1,
+            },
             Err(_) => self.refused += 1,
         }
         self

@@ -10,6 +10,20 @@ use answer::Refusal;
 use lines::Lines;
 use listing::Counts;
 
+// A sheet of more bytes is turned back.
+pub const BYTES_MOST: usize = 65535;
+
+// A sheet of more lines is turned back.
+pub const LINES_MOST: usize = 1024;
+
+// A listing takes at most so many bytes for each line of the sheet, and for the total line.
+const ENTRY_MOST: usize = 24;
+
+const TOTAL_MOST: usize = 40;
+
+// Room for what is written of any sheet that is not turned back: 24 bytes for each of 1024 lines, and 40 for the total.
+pub const ROOM: usize = ENTRY_MOST * LINES_MOST + TOTAL_MOST;
+
 // What is said of a listing: the counts of answers, and how many bytes it has.
 #[derive(Clone, Copy)]
 pub struct Listed {
@@ -32,14 +46,14 @@ fn count_lines(sheet: &[u8]) -> usize
 pub fn check(sheet: &[u8], room: usize) -> Result<(), Refusal>
     ensures { result ≡ refusal_by (sheet_checks sheet.now room) }
 {
-    if 65535 < sheet.len() {
+    if BYTES_MOST < sheet.len() {
         return Err(Refusal::SheetBytes);
     }
     let n = count_lines(sheet);
-    if 1024 < n {
+    if LINES_MOST < n {
         return Err(Refusal::SheetLines);
     }
-    if room < 24 * n + 40 {
+    if room < ENTRY_MOST * n + TOTAL_MOST {
         return Err(Refusal::ListingRoom);
     }
     Ok(())

@@ -116,20 +116,7 @@ by_number s f ps list n is = rw (is, by_shell s f ps list (refusal_of s (suited 
     go (Ok tt) b = forced (Ok tt) b
     go (Err Refusal.Range) b = refl
     go (Err Refusal.Edges) b = refl
-    go (Err Refusal.SheetBytes) b = forced (Err Refusal.SheetBytes) b
-    go (Err Refusal.SheetLines) b = forced (Err Refusal.SheetLines) b
-    go (Err Refusal.ListingRoom) b = forced (Err Refusal.ListingRoom) b
-    go (Err Refusal.LineBytes) b = forced (Err Refusal.LineBytes) b
-    go (Err Refusal.Form) b = forced (Err Refusal.Form) b
-    go (Err Refusal.WallRatio) b = forced (Err Refusal.WallRatio) b
-    go (Err Refusal.LengthRatio) b = forced (Err Refusal.LengthRatio) b
-    go (Err Refusal.Imperfection) b = forced (Err Refusal.Imperfection) b
-    go (Err Refusal.Shortfall) b = forced (Err Refusal.Shortfall) b
-    go (Err Refusal.LineRoom) b = forced (Err Refusal.LineRoom) b
-    go (Err Refusal.Wind) b = forced (Err Refusal.Wind) b
-    go (Err Refusal.PlateList) b = forced (Err Refusal.PlateList) b
-    go (Err Refusal.Force) b = forced (Err Refusal.Force) b
-    go (Err Refusal.Pressure) b = forced (Err Refusal.Pressure) b
+    go (Err r) b = forced (Err r) b
 
 -- ---- a plate by its record without any stress
 

@@ -31,6 +31,17 @@ use Rattle.plates.specs.declared.Forces.{Forces}
 use Rattle.plates.specs.Plates.{wall_of, stress_of}
 use Rattle.plates.specs.Choosing.{judgement_by, plate_judgement}
 
+-- ---- a stress above 0, and one of 0
+
+loaded : (q x : ℕ) (c : Cut) (t : Term) → 0 < x → term_bounds q x c t ≡ around (most t (place c q) q)
+unfolding term_bounds
+loaded q zero c t h = absurd (not-suc-le-zero h)
+loaded q (suc x) c t h = refl
+
+unloaded : (q : ℕ) (c : Cut) (t u : Term) → term_bounds q 0 c u ≡ term_bounds q 0 c t
+unfolding term_bounds
+unloaded q c t u = refl
+
 -- ---- two terms whose tops and loads are in the same ratio
 
 out_top : (B T K X : ℕ) → 1 * (B * (K * T * X)) ≡ K * (B * (T * X))
@@ -49,21 +60,10 @@ module _ (t u : Term) (K : ℕ) (pos : 0 < K) (rise : u.rise ≡ t.rise) (power 
   unfolding most
   most_same p q = λ i. bisect (λ b. leb b 2000000 && formula_same p q b 1000000 i) 21 0 2000001
 
--- ---- a stress above 0, and one of 0
-
-loaded : (q x : ℕ) (c : Cut) (t : Term) → 0 < x → term_bounds q x c t ≡ around (most t (place c q) q)
-unfolding term_bounds
-loaded q zero c t h = absurd (not-suc-le-zero h)
-loaded q (suc x) c t h = refl
-
-unloaded : (q : ℕ) (c : Cut) (t u : Term) → term_bounds q 0 c u ≡ term_bounds q 0 c t
-unfolding term_bounds
-unloaded q c t u = refl
-
-term_same : (q : ℕ) (c : Cut) (t u : Term) → ((p : ℕ) → most u p q ≡ most t p q) → (n m : ℕ) → 0 < m → term_bounds q (n * m) c u ≡ term_bounds q n c t
-term_same q c t u same zero m pos = rw (zero-mul m) (unloaded q c t u)
-term_same q c t u same (suc n) m pos =
-    loaded q (suc n * m) c u (mul-pos (zero-lt-suc n) pos) ∙ ap around (same (place c q)) ∙ sym (loaded q (suc n) c t (zero-lt-suc n))
+  term_same : (q : ℕ) (c : Cut) (n m : ℕ) → 0 < m → term_bounds q (n * m) c u ≡ term_bounds q n c t
+  term_same q c zero m some = rw (zero-mul m) (unloaded q c t u)
+  term_same q c (suc n) m some =
+      loaded q (suc n * m) c u (mul-pos (zero-lt-suc n) some) ∙ ap around (most_same (place c q) q) ∙ sym (loaded q (suc n) c t (zero-lt-suc n))
 
 -- ---- a fraction in larger terms
 
@@ -80,15 +80,13 @@ module _ (m : ℕ) (pos : 0 < m) (q : ℕ) (c : Cut) (F : Factor) (fy : ℕ) (σ
 
   five_same : term_bounds q (σ.num * m) c (five (larger m σ)) ≡ term_bounds q σ.num c (five σ)
   five_same =
-      term_same q c (five σ) (five (larger m σ))
-      (λ p. most_same (five σ) (five (larger m σ)) (m ^ 5) (one-le-pow 5 m pos) refl refl (ring (fy ∷ σ.den ∷ m ∷ []) (search quoted depth 60 fits 100000) refl) (ring (σ.num ∷ m ∷ []) (search quoted depth 60 fits 100000) refl) refl p q)
-      σ.num m pos
+      term_same (five σ) (five (larger m σ)) (m ^ 5) (one-le-pow 5 m pos) refl refl (ring (fy ∷ σ.den ∷ m ∷ []) (search quoted depth 60 fits 100000) refl)
+      (ring (σ.num ∷ m ∷ []) (search quoted depth 60 fits 100000) refl) refl q c σ.num m pos
 
   two_same : term_bounds q (σ.num * m) c (two (larger m σ)) ≡ term_bounds q σ.num c (two σ)
   two_same =
-      term_same q c (two σ) (two (larger m σ))
-      (λ p. most_same (two σ) (two (larger m σ)) (m ^ 2) (one-le-pow 2 m pos) refl refl (ring (fy ∷ σ.den ∷ m ∷ []) (search quoted depth 60 fits 100000) refl) (ring (σ.num ∷ m ∷ []) (search quoted depth 60 fits 100000) refl) refl p q)
-      σ.num m pos
+      term_same (two σ) (two (larger m σ)) (m ^ 2) (one-le-pow 2 m pos) refl refl (ring (fy ∷ σ.den ∷ m ∷ []) (search quoted depth 60 fits 100000) refl)
+      (ring (σ.num ∷ m ∷ []) (search quoted depth 60 fits 100000) refl) refl q c σ.num m pos
 
 abbrev added : ℕ → Pair → Pair → Pair → Pair
 added more a r h = record { low = min 20000 ((a.low + r.low + h.low) / 100); high = min 20000 ((a.high + r.high + h.high + more + 99) / 100) }

@@ -11,7 +11,7 @@ ghost use Rattle.plates.specs.Choosing.{unloaded as unloaded_of, refusal_of, ear
 use answer::{Judgement, Refusal, Verdict};
 use bounds::Load;
 use cylinder::ByStress;
-use record::{Group, Record, Wall};
+use record::{Group, Record, ValidRecord, Wall};
 
 // A shell without its thickness and its load. Each field is any u64.
 #[derive(Clone, Copy)]
@@ -30,7 +30,8 @@ pub struct Shell {
     pub imperfection: u64,
 }
 
-// Forces per length of edge, N/mm, compression positive.
+// Forces per length of edge, N/mm, compression positive. A type of their own: its check, `are_up_to`, is a method, and would be a free function over
+// a `ByStress<u64>`, whose name would say stresses of what are forces.
 #[derive(Clone, Copy)]
 pub struct Forces {
     pub axial: u64,
@@ -73,6 +74,7 @@ impl Shell {
     }
 
     // Ok, or the refusal of the first check that it breaks.
+    #[tactic(auto, unfolding(crate::specs::Choosing::refusal_of))]
     fn check(self, thickness: u64) -> Result<(), Refusal>
         ensures { result ≡ refusal_of self thickness }
     {
@@ -100,37 +102,6 @@ fn load(force: u64, thickness: u64) -> Load
     }
 }
 
-// A shell and its forces stay two parameters from here on: each definition of the choice, and the call from C, has them so.
-
-// Whether a plate is a candidate, and not passed over, if no check of the choice is broken.
-fn is_fit(s: Shell, f: Forces, thickness: u64) -> bool
-    ensures { result ≡ fits s f thickness }
-{
-    // no stress is over 700,000 kN/m²
-    s.check(thickness).is_ok() && f.are_up_to(7 * thickness)
-}
-
-// The judgement of a candidate.
-fn judgement(s: Shell, f: Forces, thickness: u64) -> Judgement
-    requires { fits s f thickness ≡ true }
-    ensures { result ≡ plate_judgement s f thickness }
-{
-    let loads = ByStress {
-        axial: load(f.axial, thickness),
-        ring: load(f.ring, thickness),
-        shear: load(f.shear, thickness),
-    };
-    let b = bounds::of_sum(s.unloaded(thickness).cylinder(), loads, 0);
-    Judgement::by_bounds(b.low, b.high)
-}
-
-// Whether a plate is a candidate with the verdict holds; open is not.
-fn holds(s: Shell, f: Forces, thickness: u64) -> bool
-    ensures { result ≡ plate_holds s f thickness }
-{
-    is_fit(s, f, thickness) && judgement(s, f, thickness).verdict == Verdict::Holds
-}
-
 // Whether each plate is thicker than the one before it.
 fn is_rising(plates: &[u64]) -> bool
     ensures { result ≡ rising plates.now }
@@ -152,29 +123,76 @@ fn is_early(shell: Result<(), Refusal>) -> bool
     matches!(shell, Err(Refusal::Range | Refusal::Edges))
 }
 
-// Ok, or the refusal of the first check that is broken. The shell is checked with a thickness in its range that keeps check 8 with any
-// radius in its range.
-fn check(s: Shell, f: Forces, plates: &[u64]) -> Result<(), Refusal>
-    ensures { result ≡ refusal_by (choice_checks s f plates.now) }
-{
-    if !is_list(plates) {
-        return Err(Refusal::PlateList);
-    }
-    let shell = s.check(s.radius.min(Record::THICKNESS_MOST));
-    if is_early(shell) {
-        return shell;
-    }
-    if !f.are_up_to(FORCE_MOST) {
-        return Err(Refusal::Force);
-    }
-    shell
+// A shell and the forces on it, for which a plate is chosen.
+#[derive(Clone, Copy)]
+struct Choice {
+    shell: Shell,
+    forces: Forces,
 }
 
-// The place of the first plate that holds, counted from 0.
-fn first(s: Shell, f: Forces, plates: &[u64]) -> Option<usize>
-    ensures { result ≡ position (plate_holds s f) plates.now }
-{
-    plates.iter().position(|t| holds(s, f, *t))
+impl Choice {
+    // Whether a plate is a candidate, and not passed over, if no check of the choice is broken.
+    #[tactic(auto, using(crate::proofs::Shells::unbroken_thickness))]
+    fn is_fit(self, thickness: u64) -> bool
+        ensures { result ≡ fits self.shell self.forces thickness }
+    {
+        // no stress is over 700,000 kN/m²
+        self.shell.check(thickness).is_ok() && self.forces.are_up_to(7 * thickness)
+    }
+
+    // The judgement of a candidate, which breaks no check by `fits`.
+    #[tactic(auto, using(crate::proofs::Shells::fits_passed, crate::proofs::Shells::fits_thickness, crate::proofs::Shells::fits_forces))]
+    fn judgement(self, thickness: u64) -> Judgement
+        requires { fits self.shell self.forces thickness ≡ true }
+        ensures { result ≡ plate_judgement self.shell self.forces thickness }
+    {
+        let loads = ByStress {
+            axial: load(self.forces.axial, thickness),
+            ring: load(self.forces.ring, thickness),
+            shear: load(self.forces.shear, thickness),
+        };
+        let plate = ValidRecord {
+            given: self.shell.unloaded(thickness),
+        };
+        let b = bounds::of_sum(plate.cylinder(), loads, 0);
+        Judgement::by_bounds(b.low, b.high)
+    }
+
+    // Whether a plate is a candidate with the verdict holds; open is not.
+    #[tactic(auto, using(crate::proofs::Choices::same_holds), unfolding(crate::specs::Choosing::plate_holds))]
+    fn holds(self, thickness: u64) -> bool
+        ensures { result ≡ plate_holds self.shell self.forces thickness }
+    {
+        self.is_fit(thickness) && self.judgement(thickness).verdict == Verdict::Holds
+    }
+
+    // Ok, or the refusal of the first check that is broken. The shell is checked with a thickness in its range that keeps check 8 with any
+    // radius in its range.
+    #[tactic(auto, using(crate::proofs::Shells::by_shell))]
+    fn check(self, plates: &[u64]) -> Result<(), Refusal>
+        ensures { result ≡ refusal_by (choice_checks self.shell self.forces plates.now) }
+    {
+        if !is_list(plates) {
+            return Err(Refusal::PlateList);
+        }
+        let shell = self
+            .shell
+            .check(self.shell.radius.min(Record::THICKNESS_MOST));
+        if is_early(shell) {
+            return shell;
+        }
+        if !self.forces.are_up_to(FORCE_MOST) {
+            return Err(Refusal::Force);
+        }
+        shell
+    }
+
+    // The place of the first plate that holds, counted from 0.
+    fn first(self, plates: &[u64]) -> Option<usize>
+        ensures { result ≡ position (plate_holds self.shell self.forces) plates.now }
+    {
+        plates.iter().position(|t| self.holds(*t))
+    }
 }
 
 // The first plate of the list whose verdict is holds.
@@ -182,14 +200,15 @@ pub fn choose(s: Shell, f: Forces, plates: &[u64]) -> Chosen
     ensures value { result ≡ choosing s f plates.now }
     ensures right_choice { RightChoice plate_judgement s f plates.now result }
 {
-    check(s, f, plates)?;
-    match first(s, f, plates) {
-        Some(i) => Ok(Some(i + 1)),
-        None => Ok(None),
-    }
+    let choice = Choice {
+        shell: s,
+        forces: f,
+    };
+    choice.check(plates)?;
+    Ok(choice.first(plates).map(|i| i + 1))
 }
 
-// The number that the call from C returns for a choice.
+// The number that the call from C returns for a choice. A function: a `From` asks nothing, and here the place has to fit.
 pub fn number(chosen: Chosen) -> u64
     requires { PlaceBounded chosen }
     ensures { result ≡ chosen_number chosen }

@@ -91,7 +91,7 @@ square_nought : (D X N Y n : ℕ) → leb (0 * (D * X)) (N * Y * n) ≡ true
 square_nought D X N Y n = le-leb (0 * (D * X)) (N * Y * n) (omega arith)
 
 module _ (s : Cylinder) (ok : Sound s) (σ σ' : Fraction) (c d g h : ℕ) (den : 0 < σ.den) (den' : 0 < σ'.den) (cpos : 0 < c) (more : Grows σ σ' c d) where
-  -- a term reaches b/n, and so that of the other stress reaches (g b)/(h n)
+  -- a term reaches b/n, and so that of the other stress reaches (g b)/(h n); each stress by itself, as in `SumBounds` of cylinder
   pub axial_grown : Fifth c d g h → (b n : ℕ) → AxialReaches s σ b n → AxialReaches s σ' (g * b) (h * n)
   axial_grown fine =
       grown Branch2 branch2 (axial_s s) σ σ' c d g h den' cpos more (axial_test s σ) (axial_test s σ')

@@ -16,7 +16,7 @@ use Rattle.cylinder.specs.Search.{grid, place, Pair, sum_bounds}
 use Rattle.cylinder.specs.InLimits.{InLimits}
 use Rattle.cylinder.proofs.Limits.{Sound, sound, axial_lawful}
 use Rattle.cylinder.proofs.Far.{axial_far}
-use Rattle.cylinder.proofs.Agree.{axial_agree}
+use Rattle.cylinder.proofs.Agree.{axial_agree, axial_short_lem}
 use Rattle.cylinder.proofs.Placed.{Placed}
 use Rattle.cylinder.proofs.Search.{part, placed}
 use Rattle.cylinder.proofs.SumBounds.{axial_bracket, ring_bracket, shear_bracket, sum_bounds_lem}
@@ -27,7 +27,7 @@ use Rattle.pressure.specs.declared.Order.TheVariants.{ToleranceFirst, PressureFi
 use Rattle.pressure.specs.GainTest.{test_ratio, Broken}
 use Rattle.pressure.specs.GainSum.{OverGain, LineOver, BoundsUnder}
 use Rattle.pressure.specs.WholeGain.{place38, lessened, fits_above, fits_below, acting, extra, chosen, tested_at, line_bounds}
-use Rattle.pressure.proofs.Spots.{Placed38, placed38, axial_short_lem}
+use Rattle.pressure.proofs.Spots.{Placed38, placed38}
 use Rattle.pressure.proofs.WithGain.{less, with_right, with_close}
 use Rattle.pressure.proofs.TestRule.{with_rule, without_rule, unclear_rule}
 

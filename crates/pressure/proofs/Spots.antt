@@ -3,25 +3,26 @@ use mathlib.Core.Path.{◌≡◌, refl, sym, ap, ◌∙◌}
 use mathlib.Core.Bool.{Bool, true, false}
 use mathlib.Core.Logic.{inl, inr}
 use Prim.Native.Nat.{ℕ, ◌+◌, ◌*◌, ◌^◌, ◌≤◌, ◌<◌}
-use native.Mathlib.Nat.{mul-pos, mul-le-mul, mul-le-mul_left, mul-le-mul_right, mul-lt-mul_of_pos_left, lt_of_mul-lt-mul_right, lt_of_not-le, one-le-pow, pow-le-pow_left}
+use native.Mathlib.Nat.{mul-pos, mul-le-mul, mul-le-mul_right, mul-lt-mul_of_pos_left, lt_of_mul-lt-mul_right, lt_of_not-le, one-le-pow, pow-le-pow_left}
 use native.Mathlib.Omega.{arith}
-use lib.Dec.{leb, lit≤, lit<}
+use lib.Dec.{lit≤, lit<}
 use borrow.Author.Tests.{lt-leb}
 use Rattle.algebra.specs.Bisection.{bisect, Edge}
 use Rattle.algebra.proofs.Bisection.{bisect_edge, edge_unique}
-use Rattle.algebra.proofs.Powers.{mul_pow, pow_two, pow_three}
+use Rattle.algebra.proofs.Powers.{mul_pow, pow_two}
 use Rattle.algebra.proofs.Tests.{clash}
 use Rattle.algebra.specs.Choice.{pick}
 use Rattle.cylinder.specs.declared.Cylinder.{Cylinder}
 use Rattle.cylinder.specs.Fraction.{whole}
-use Rattle.cylinder.specs.Ideal.{r/t, l/r, axial_short}
+use Rattle.cylinder.specs.Ideal.{axial_short}
 use Rattle.cylinder.specs.Resistance.{axial_s}
 use Rattle.cylinder.specs.WholeIdeal
-use Rattle.cylinder.proofs.Like.{Like, self, again, times, power, at_most_lem}
+use Rattle.cylinder.proofs.Like.{Like, self, again, power, at_most_lem}
 use Rattle.cylinder.proofs.Limits.{Sound, axial_lawful}
 use Rattle.cylinder.proofs.Lawful.{Lawful, fraction_lawful, root_lawful}
 use Rattle.cylinder.proofs.Search.{reaches_down}
-use Rattle.cylinder.proofs.Agree.{Agree, axial_agree}
+use Rattle.cylinder.proofs.Agree.{Agree, axial_agree, axial_short_lem}
+use Rattle.cylinder.proofs.Far.{axial_short_7}
 use Rattle.cylinder.proofs.Placed.{Placed, placed_below, placed_from, misses_over, reaches_over}
 use Rattle.pressure.specs.Gain.{P, P38, Acts}
 use Rattle.pressure.specs.WholeGain
@@ -92,40 +93,16 @@ module _ (s : Cylinder) (ok : Sound s) (p : ℕ) where
 -- ---- S
 
 module _ (s : Cylinder) (ok : Sound s) where
-  r/t-like : Like (r/t s) (200 * s.radius) s.wall
-  r/t-like = again (self _ _) 1 1 _ _ (lit< tt) (lit< tt) (omega arith) (omega arith)
-
-  l/r-like : Like (l/r s) s.length s.radius
-  l/r-like = again (self _ _) 1 1 _ _ (lit< tt) (lit< tt) (omega arith) (omega arith)
-
-  cubed : (n a : ℕ) → n * a * a ^ 2 ≡ n * a ^ 3
-  cubed n a = simp (pow_two, pow_three) (omega arith)
-
-  -- the length test of Ideal is that of WholeIdeal
-  pub axial_short_lem : axial_short s ≡ WholeIdeal.axial_is_short s
-  axial_short_lem =
-      at_most_lem (power l/r-like 2) (again (times (power (self 5 10) 2) r/t-like) 1 100 (50 * s.radius) s.wall (lit< tt) (lit< tt) (omega arith) (omega arith))
-      ∙ ap (leb (s.length ^ 2 * s.wall)) (cubed 50 s.radius)
-
   module _ (short : axial_short s ≡ true) where
     pub is_short : WholeIdeal.axial_cut s ≡ WholeIdeal.axial_short_cut s
-    is_short = ap (λ (b : Bool). pick b (WholeIdeal.axial_short_cut s) (WholeIdeal.axial_long_cut s)) (sym axial_short_lem ∙ short)
+    is_short = ap (λ (b : Bool). pick b (WholeIdeal.axial_short_cut s) (WholeIdeal.axial_long_cut s)) (sym (axial_short_lem s ok) ∙ short)
 
     pub axial_tight : Tight (WholeIdeal.axial_cut s)
     axial_tight = rw is_short (root_tight 2 _ _ (omega arith))
 
     -- S < 7
     pub below_7 : (WholeIdeal.axial_cut s).reaches 7 1 ≡ false
-    below_7 = rw is_short (lt-leb _ _ less)
-      where
-        less : 16000000 * s.radius * s.length ^ 2 * s.yield_stress * 1 ^ 2 < 7 ^ 2 * (121 * s.modulus * s.wall * (400 * s.length ^ 2 + 3 * s.radius * s.wall))
-        less =
-            omega (
-              arith,
-              mul-le-mul_left (s.length ^ 2) (mul-le-mul ok.thick ok.soft),
-              mul-le-mul_left (s.wall * s.length ^ 2) ok.modulus,
-              mul-pos ok.wall (one-le-pow 2 s.length ok.length),
-            )
+    below_7 = rw is_short (axial_short_7 s ok)
 
     module _ (k q v : ℕ) (at : Placed (WholeIdeal.axial_cut s) k q v) where
       pub small : k < 7 * q

@@ -1,7 +1,8 @@
-// What a caller of the arithmetic writes, and what its proof costs: inequalities between products, decided exactly.
+// What a caller of the arithmetic writes, and what its proof costs: inequalities between products, decided exactly. Each sample
+// stands by itself, its proof too, so no lemma is shared.
 #![tactic(auto)]
 
-ghost use Rattle.std.specs.Prelude.{◌≡◌, [], ◌∷◌, ◌+◌, ◌*◌, ◌^◌, ◌≤◌, leb, length};
+ghost use Rattle.std.specs.Prelude.{◌≡◌, ◌+◌, ◌*◌, ◌^◌, ◌≤◌, leb, length};
 ghost use Rattle.wide.specs.Number.{IsNumber};
 ghost use Rattle.factors.specs.Product.{prod};
 

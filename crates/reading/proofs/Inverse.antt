@@ -177,26 +177,35 @@ lacking d w =
       shortfall = d;
     }
 
+-- the text with d shows d, and that without shows none
+shows_some : (c : LoadCases) → text c ≡ line_text (numbers c.wall (Some c.wall.shortfall), (c.groups, c.inner))
+unfolding text
+shows_some c = ap (λ (x : List ℕ). shell_text x c.groups c.inner) (append_assoc (seven_text c.wall) (ascii " ") (decimal c.wall.shortfall))
+
+shows_none : (c : LoadCases) → text_without_shortfall c ≡ line_text (numbers c.wall None, (c.groups, c.inner))
+unfolding text_without_shortfall
+shows_none c = ap (λ (x : List ℕ). shell_text x c.groups c.inner) (sym (append-nil (seven_text c.wall)))
+
 module _ (l : List ℕ) where
   abbrev Shows : Line → Type 0
   Shows p = SmallLine p × (l ≡ line_text p)
 
   -- a line spells the load cases of what it shows
   spells_shown : (p : Line) → Shows p → Spells l (cases_in p)
-  unfolding Spells text text_without_shortfall Small
-  spells_shown ((r, (t, (n, (E, (fy, (edges, (a, Some d))))))), (gs, i)) ((s, (s', s'')), is) =
-      (((s.0, s.1.0, s.1.1.0, s.1.1.1.0, s.1.1.1.1.0, s.1.1.1.1.1.0, s.1.1.1.1.1.1.0, s.1.1.1.1.1.1.1), s', s''), inl (is ∙ ap (λ (x : List ℕ). shell_text x gs i) (sym (append_assoc (seven_text (wall_in (r, (t, (n, (E, (fy, (edges, (a, Some d))))))))) (ascii " ") (decimal d)))))
-  spells_shown ((r, (t, (n, (E, (fy, (edges, (a, None))))))), (gs, i)) ((s, (s', s'')), is) =
-      (((s.0, s.1.0, s.1.1.0, s.1.1.1.0, s.1.1.1.1.0, s.1.1.1.1.1.0, s.1.1.1.1.1.1.0, lit< tt), s', s''), inr (refl, is ∙ ap (λ (x : List ℕ). shell_text x gs i) (append-nil (seven_text (wall_in (r, (t, (n, (E, (fy, (edges, (a, None))))))))))))
+  unfolding Spells Small
+  spells_shown ((_, (_, (_, (_, (_, (_, (_, Some _))))))), _) (((r, (t, (n, (E, (fy, (edges, (a, d))))))), (gs, i)), is) =
+      (((r, t, n, E, fy, edges, a, d), gs, i), inl (is ∙ sym (shows_some _)))
+  spells_shown ((r, (t, (n, (E, (fy, (edges, (a, None))))))), q) (((r', (t', (n', (E', (fy', (edges', (a', _))))))), (gs, i)), is) =
+      (((r', t', n', E', fy', edges', a', lit< tt), gs, i), inr (refl, is ∙ sym (shows_none (cases_in ((r, (t, (n, (E, (fy, (edges, (a, None))))))), q)))))
 
   -- and where it spells load cases, it shows what means them
   shows_spelt : (c : LoadCases) → Spells l c → (p : Line) × (Shows p × (cases_in p ≡ c))
-  unfolding Spells text text_without_shortfall Small
-  shows_spelt c (((r, t, n, E, fy, edges, a, d), s', s''), inl is) =
-      ((numbers c.wall (Some c.wall.shortfall), (c.groups, c.inner)), ((((r, (t, (n, (E, (fy, (edges, (a, d))))))), (s', s'')), is ∙ ap (λ (x : List ℕ). shell_text x c.groups c.inner) (append_assoc (seven_text c.wall) (ascii " ") (decimal c.wall.shortfall))), refl))
-  shows_spelt c (((r, t, n, E, fy, edges, a, d), s', s''), inr (none, is)) = (
+  unfolding Spells Small
+  shows_spelt c (((r, t, n, E, fy, edges, a, d), gs, i), inl is) =
+      ((numbers c.wall (Some c.wall.shortfall), (c.groups, c.inner)), ((((r, (t, (n, (E, (fy, (edges, (a, d))))))), (gs, i)), is ∙ shows_some c), refl))
+  shows_spelt c (((r, t, n, E, fy, edges, a, d), gs, i), inr (none, is)) = (
     (numbers c.wall None, (c.groups, c.inner)),
-    ((((r, (t, (n, (E, (fy, (edges, (a, tt))))))), (s', s'')), is ∙ ap (λ (x : List ℕ). shell_text x c.groups c.inner) (sym (append-nil (seven_text c.wall)))), λ i. record { wall = lacking (sym none i) c.wall; groups = c.groups; inner = c.inner }),
+    ((((r, (t, (n, (E, (fy, (edges, (a, tt))))))), (gs, i)), is ∙ shows_none c), λ i. record { wall = lacking (sym none i) c.wall; groups = c.groups; inner = c.inner }),
   )
 
 -- the form of a line: either it spells load cases and is read as they are, or it spells none

@@ -1,26 +1,17 @@
--- What the functions of the code find, as readers find it: a value that may be missing, and values that are stored one after the other.
+-- What the loop over the groups has read so far; what readers find, a value that stands for another or may be missing; and a line with bytes behind it.
 -- Assumes nothing.
-use Rattle.std.proofs.Common.{Option, Some, None, Bor}
-use Rattle.std.specs.Option.{unwrap_or}
+use Rattle.std.proofs.Common.{Option, Some, None}
 use mathlib.Core.Path.{◌≡◌, refl, sym, ap, ◌∙◌}
 use Prim.Native.Nat.{ℕ, suc, ◌+◌, ◌-◌, ◌≤◌, ◌<◌}
 use native.Mathlib.Omega.{arith}
 use mathlib.Core.List.{List, [], ◌∷◌, ◌++◌, append_assoc, append-nil}
 use lib.ListN.{length, length-append}
 use Rattle.text.specs.Bytes.{ascii}
-use Rattle.format.specs.Readers.{Found, found, Reader, on, fixed, several, found_some, one_to, sequence, changed, one_of, empty, optional, whole}
-use Rattle.format.specs.Seen.{seen}
+use Rattle.format.specs.Readers.{Found, found, Reader, on, fixed, several, one_to, sequence, changed, one_of, empty, optional}
 use Rattle.format.proofs.Formats.{same_value, same_rest}
 use Rattle.record.specs.declared.Wall.{Wall}
 use Rattle.record.specs.declared.Group.{Group}
-use Rattle.reading.specs.Reading.{or_zero, Shown, wall_in, cases_in, shown, group, groups, inner, line, form_of}
-
--- a missing number is read as 0, and takes no bytes
-pub read_or_zero : (f : Reader ℕ) (rest : Bor (List ℕ)) (o : Option (ℕ × Bor (List ℕ))) → seen o ≡ f rest.now
-    → found (unwrap_or o (0, rest)).0 (unwrap_or o (0, rest)).1.now ≡ changed or_zero (optional Some None f) rest.now
-unfolding changed one_of empty
-read_or_zero f rest None e = rw (← e) refl
-read_or_zero f rest (Some p) e = rw (← e) refl
+use Rattle.reading.specs.Reading.{wall_in, shown, group, groups, inner, line, form_of}
 
 -- values read so far before those that are still to be read
 abbrev behind : {A : Type 0} → List A → Found (List A) → Found (List A)
@@ -105,64 +96,10 @@ module _ {A C : Type 0} (h : A → C) (none : C) (f : Reader A) (s : List ℕ) w
 
 -- ---- a line
 
-module _ (s : List ℕ) {gs : List Group} {rest : List ℕ} (e : found gs rest ≡ several 8 group s) where
-  pub some_groups : (length gs ≡ 0 → ⊥) → found gs rest ≡ groups s
-  unfolding groups one_to
-  some_groups some = go gs some ∙ ap (λ (o : Found (List Group)). on o found_some) e
-    where
-      go : (xs : List Group) → (length xs ≡ 0 → ⊥) → found xs rest ≡ found_some xs rest
-      go [] n = absurd (n refl)
-      go (x ∷ xs) n = refl
-
-  pub no_groups : length gs ≡ 0 → None ≡ groups s
-  unfolding groups one_to
-  no_groups none = go gs none ∙ ap (λ (o : Found (List Group)). on o found_some) e
-    where
-      go : (xs : List Group) → length xs ≡ 0 → None ≡ found_some xs rest
-      go [] e = refl
-      go (x ∷ xs) e = absurd (omega arith)
-
-module _ (l : List ℕ) {r₁ : List ℕ} (opens : found tt r₁ ≡ fixed (ascii "(shell ") l) where
-  module _ {p : Shown} {r₂ : List ℕ} (wall : found p r₂ ≡ shown r₁) where
-    pub line_ungrouped : None ≡ groups r₂ → None ≡ line l
-    unfolding line sequence changed
-    line_ungrouped e = rw (← opens, ← wall, ← e) refl
-
-    module _ {gs : List Group} {r₃ : List ℕ} (many : found gs r₃ ≡ groups r₂) {i : Option ℕ} {r₄ : List ℕ} (given : found i r₄ ≡ inner r₃) where
-      pub line_unclosed : None ≡ fixed (ascii ")") r₄ → None ≡ line l
-      unfolding line sequence changed
-      line_unclosed e = rw (← opens, ← wall, ← many, ← given, ← e) refl
-
-      pub line_found : {r₅ : List ℕ} → found tt r₅ ≡ fixed (ascii ")") r₄ → found (p, (gs, i)) r₅ ≡ line l
-      unfolding line sequence changed
-      line_found e = rw (← opens, ← wall, ← many, ← given, ← e) refl
-
-  pub line_unwalled : None ≡ shown r₁ → None ≡ line l
-  unfolding line sequence changed
-  line_unwalled e = rw (← opens, ← e) refl
-
-pub line_unopened : (l : List ℕ) → None ≡ fixed (ascii "(shell ") l → None ≡ line l
-unfolding line sequence changed
-line_unopened l e = rw (← e) refl
-
--- no line, or bytes after it
-pub form_none : (l : List ℕ) → None ≡ line l → None ≡ form_of l
-unfolding form_of
-form_none l e = rw (← e) refl
-
-module _ (l : List ℕ) {rest : List ℕ} {p : Shown × (List Group × Option ℕ)} (e : found p rest ≡ line l) where
-  pub form_more : (length rest ≡ 0 → ⊥) → None ≡ form_of l
-  unfolding form_of
-  form_more n = go rest n ∙ ap (whole (λ q. Some (cases_in q)) None) e
-    where
-      go : (r : List ℕ) → (length r ≡ 0 → ⊥) → None ≡ whole (λ q. Some (cases_in q)) None (found p r)
-      go [] n = absurd (n refl)
-      go (b ∷ r) n = refl
-
-  pub form_whole : {w : Wall} → wall_in p.0 ≡ w → length rest ≡ 0 → Some (record { wall = w; groups = p.1.0; inner = p.1.1 }) ≡ form_of l
-  unfolding form_of
-  form_whole {w} is none = ap (λ (x : Wall). Some (record { wall = x; groups = p.1.0; inner = p.1.1 })) (sym is) ∙ go rest none ∙ ap (whole (λ q. Some (cases_in q)) None) e
-    where
-      go : (r : List ℕ) → length r ≡ 0 → Some (cases_in p) ≡ whole (λ q. Some (cases_in q)) None (found p r)
-      go [] n = refl
-      go (b ∷ r) n = absurd (omega arith)
+-- bytes after the last parenthesis: the line spells no load cases
+pub form_more : (l : List ℕ) {r₁ r₂ r₃ r₄ : List ℕ} {w : Wall} (gs : List Group) {i : Option ℕ} (rest : List ℕ) → found tt r₁ ≡ fixed (ascii "(shell ") l → found w r₂ ≡ changed wall_in shown r₁
+    → found gs r₃ ≡ several 8 group r₂ → (length gs ≡ 0 → ⊥) → found i r₄ ≡ inner r₃ → found tt rest ≡ fixed (ascii ")") r₄ → (length rest ≡ 0 → ⊥) → None ≡ form_of l
+unfolding sequence changed one_to groups line form_of
+form_more l [] rest opens wall many some given closed more = absurd (some refl)
+form_more l (g ∷ gs) [] opens wall many some given closed more = absurd (more refl)
+form_more l (g ∷ gs) (b ∷ rest) opens wall many some given closed more = grind arith

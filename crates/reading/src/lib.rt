@@ -20,6 +20,7 @@ fn read_spaced(rest: &[u8]) -> Option<(u64, &[u8])>
 }
 
 // d after a space, or no bytes for a d of 0.
+#[tactic(auto, unfolding(format::specs::Readers::one_of, format::specs::Readers::empty, format::specs::Readers::changed, crate::specs::Reading::shortfall))]
 fn read_shortfall(rest: &[u8]) -> (u64, &[u8])
     ensures { found result.0 result.1.now ≡ changed or_zero shortfall rest.now }
 {
@@ -27,6 +28,7 @@ fn read_shortfall(rest: &[u8]) -> (u64, &[u8])
 }
 
 // r t l E fy edges a, and d where it is there
+#[tactic(auto, unfolding(format::specs::Readers::sequence, format::specs::Readers::changed, crate::specs::Reading::shown))]
 fn read_wall(rest: &[u8]) -> Option<(Wall, &[u8])>
     ensures { seen result ≡ changed wall_in shown rest.now }
 {
@@ -52,6 +54,7 @@ fn read_wall(rest: &[u8]) -> Option<(Wall, &[u8])>
 }
 
 // (wind w v), after a space
+#[tactic(auto, unfolding(format::specs::Readers::sequence, format::specs::Readers::changed, crate::specs::Reading::wind))]
 fn read_wind(rest: &[u8]) -> Option<(Ring, &[u8])>
     ensures { seen result ≡ changed wind_in wind rest.now }
 {
@@ -62,6 +65,7 @@ fn read_wind(rest: &[u8]) -> Option<(Ring, &[u8])>
 }
 
 // σφ or wind, after a space
+#[tactic(auto, unfolding(format::specs::Readers::one_of, format::specs::Readers::changed, crate::specs::Reading::ring))]
 fn read_ring(rest: &[u8]) -> Option<(Ring, &[u8])>
     ensures { seen result ≡ ring rest.now }
 {
@@ -72,6 +76,7 @@ fn read_ring(rest: &[u8]) -> Option<(Ring, &[u8])>
 }
 
 // (stress σx σφ τ), or wind in the place of σφ, after a space
+#[tactic(auto, unfolding(format::specs::Readers::sequence, format::specs::Readers::changed, crate::specs::Reading::group))]
 fn read_group(rest: &[u8]) -> Option<(Group, &[u8])>
     ensures { seen result ≡ group rest.now }
 {
@@ -88,7 +93,7 @@ fn read_groups(rest: &[u8]) -> (Groups, &[u8])
 {
     let mut groups = Groups::new();
     let mut left = rest;
-    for _ in 0..8usize {
+    for _ in 0..Groups::MOST {
         let Some((group, after)) = read_group(left) else {
             return (groups, left);
         };
@@ -99,6 +104,7 @@ fn read_groups(rest: &[u8]) -> (Groups, &[u8])
 }
 
 // p of (inner p), after a space
+#[tactic(auto, unfolding(format::specs::Readers::sequence, format::specs::Readers::changed, crate::specs::Reading::pressure))]
 fn read_pressure(rest: &[u8]) -> Option<(u64, &[u8])>
     ensures { seen result ≡ pressure rest.now }
 {
@@ -107,6 +113,7 @@ fn read_pressure(rest: &[u8]) -> Option<(u64, &[u8])>
 }
 
 // (inner p) after a space, or no bytes
+#[tactic(auto, unfolding(format::specs::Readers::one_of, format::specs::Readers::empty, crate::specs::Reading::inner))]
 fn read_inner(rest: &[u8]) -> (Option<u64>, &[u8])
     ensures { found result.0 result.1.now ≡ inner rest.now }
 {
@@ -117,6 +124,7 @@ fn read_inner(rest: &[u8]) -> (Option<u64>, &[u8])
 }
 
 // The load cases that a line spells; None where it spells none.
+#[tactic(auto, unfolding(format::specs::Readers::sequence, format::specs::Readers::changed, format::specs::Readers::one_to, crate::specs::Reading::groups, crate::specs::Reading::line, crate::specs::Reading::form_of))]
 pub fn read(line: &[u8]) -> Option<Cases>
     ensures value { option_map load_cases result ≡ form_of line.now }
     ensures counted { IfSome result Counted }
@@ -124,7 +132,7 @@ pub fn read(line: &[u8]) -> Option<Cases>
     let rest = read_fixed(line, b"(shell ")?;
     let (wall, rest) = read_wall(rest)?;
     let (groups, rest) = read_groups(rest);
-    if groups.len() == 0 {
+    if groups.is_empty() {
         return None;
     }
     let (inner, rest) = read_inner(rest);

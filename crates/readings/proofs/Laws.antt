@@ -1,18 +1,17 @@
 -- The loop over the lines of a sheet, the room that its rows take, and the run: what `comparison` gives is what is laid down. Assumes nothing.
 use mathlib.Core.Path.{◌≡◌, refl, sym, ap, ◌∙◌, subst}
 use mathlib.Core.Logic.{◌⊎◌, inl, inr}
-use mathlib.Core.List.{List, [], ◌∷◌, ◌++◌, append_assoc}
+use mathlib.Core.List.{List, [], ◌∷◌, ◌++◌, append_assoc, append-nil}
 use Prim.Native.Nat.{ℕ, ◌+◌, ◌*◌, ◌≤◌, ◌<◌, zero-le}
 use native.Mathlib.Omega.{arith}
 use lib.ListN.{length, drop, length-append}
 use lib.Dec.{eqb, lit≤}
 use borrow.Author.Tests.{eq-eqb}
 use Rattle.std.specs.Prelude.{Result, Ok, Err, Option, None, Some, IfOk}
-use Rattle.std.specs.Borrow.{MutBor}
 use Rattle.text.specs.Bytes.{decimal, lines}
 use Rattle.text.specs.Slices.{put}
 use Rattle.text.specs.declared.Page.{Page}
-use Rattle.text.specs.Pages.{Opens, Fits, Puts}
+use Rattle.text.specs.Pages.{Fits, Puts}
 use Rattle.text.proofs.Laws.{put_all, decimal_length, pick_on, puts_none, puts_then, puts_as}
 use Rattle.lines.specs.declared.Lines.{Lines}
 use Rattle.lines.specs.Left.{lines_left}
@@ -108,11 +107,7 @@ module _ (sheet : List ℕ) (start page : Page) (it : Lines) (k : ℕ) (here : H
 
   pub here_end : lines_left it ≡ [] → Puts start (differences sheet) page
   unfolding rows
-  here_end none = puts_as (sym (append_nil here.bytes) ∙ ap (λ (ls : List (List ℕ)). here.bytes ++ rows (answer_to ToleranceFirst) (answer_to PressureFirst) k ls) (sym none) ∙ here.next) here.puts
-    where
-      append_nil : (l : List ℕ) → l ++ [] ≡ l
-      append_nil [] = refl
-      append_nil (b ∷ l) = ap (λ (m : List ℕ). b ∷ m) (append_nil l)
+  here_end none = puts_as (sym (append-nil here.bytes) ∙ ap (λ (ls : List (List ℕ)). here.bytes ++ rows (answer_to ToleranceFirst) (answer_to PressureFirst) k ls) (sym none) ∙ here.next) here.puts
 
 -- ---- a line with a row
 
@@ -187,14 +182,3 @@ module _ (sheet out : List ℕ) where
   -- for the code
   pub readings_of : (r : Result ℕ Refusal) (out' : List ℕ) → ◌≡◌ {A = Result ℕ Refusal × List ℕ} (r, out') (comparison sheet out) → Claim (r, out')
   readings_of r out' e = subst Claim (sym e) readings_right
-
--- on a page that is opened on a buffer
-module _ (buffer : MutBor (List ℕ)) (start : Page) (opens : Opens buffer start) (sheet : List ℕ) where
-  pub opened_fits : length (differences sheet) ≤ length buffer.now → Fits start (differences sheet)
-  opened_fits room = omega (arith, opens.at, ap length opens.out)
-
-  pub opened_out : {page : Page} → Puts start (differences sheet) page → page.out.now ≡ put buffer.now 0 (differences sheet)
-  opened_out w = w.out ∙ rw (opens.out, opens.at) refl
-
-  pub opened_at : {page : Page} → Puts start (differences sheet) page → page.at ≡ length (differences sheet)
-  opened_at w = omega (arith, w.at, opens.at)

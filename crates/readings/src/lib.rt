@@ -18,7 +18,7 @@ use pressure::Order;
 use sheet::answer;
 use text::Page;
 
-// The verdicts of two answers, where they differ.
+// The verdicts of two answers, old and new, where they differ: a pair, and no type of its own, since the definitions have the pair (`change_of`, `row`).
 fn change_of(a: Answer, b: Answer) -> Option<(Verdict, Verdict)>
     ensures { result ≡ change_of a b }
 {

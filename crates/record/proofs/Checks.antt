@@ -1,5 +1,5 @@
 -- The ranges that the checks give. Assumes nothing.
-use mathlib.Core.Path.{◌≡◌}
+use mathlib.Core.Path.{◌≡◌, sym, ap, ◌∙◌, subst}
 use mathlib.Core.Bool.{true, ◌&&◌}
 use Prim.Native.Nat.{ℕ, ◌*◌, ◌≤◌, ◌<◌}
 use native.Mathlib.Omega.{arith}
@@ -8,11 +8,15 @@ use borrow.Author.Tests.{leb-true}
 use Rattle.algebra.proofs.Tests.{and_true, pick_either}
 use Rattle.cylinder.specs.InLimits.{InLimits}
 use Rattle.answer.specs.Answers.{refusal_number}
-use Rattle.answer.specs.Checks.{AllPassed}
-use Rattle.answer.proofs.Checks.{Every, refusals}
+use Rattle.std.specs.Prelude.{Result, Ok, Err, MatchResult}
+use Rattle.answer.specs.declared.Refusal.{Refusal}
+use Rattle.answer.specs.Checks.{AllPassed, FirstBroken}
+use Rattle.answer.specs.Answering.{first_or}
+use Rattle.answer.proofs.Checks.{Every, refusals, first_broken, all_passed}
 use Rattle.record.specs.declared.Wall.{Wall}
 use Rattle.record.specs.declared.Group.{Group}
 use Rattle.record.specs.declared.Record.{Record}
+use Rattle.record.specs.declared.ValidRecord.{ValidRecord}
 use Rattle.record.specs.Limits.{from_to, dimensions, material, ring_in_range, stresses, in_range, shortfall_counts, effective_wall, checks, cylinder_of}
 
 -- a number in its range
@@ -86,6 +90,12 @@ cylinder_within c (r, (e, (d, (w, (l, (t, u)))))) =
       not_short = leb-true W.radius (20 * W.length) short;
       not_long = leb-true W.length (50 * W.radius) long;
     }
+
+-- what `valid` leads to: what f gives of the refusal, or what g gives of the record
+pub by_valid : {A : Type 0} (f : Refusal → A) (g : Record → A) (y : A) (c : Record) (r : Result ValidRecord Refusal) →
+    MatchResult r (λ v. v.given ≡ c) (FirstBroken (checks c)) → MatchResult r (λ v. y ≡ g v.given) (λ n. y ≡ f n) → y ≡ first_or f (g c) (checks c)
+by_valid f g y c (Ok v) e is = is ∙ ap g e ∙ sym (all_passed f (g c) (checks c) (subst (λ (d : Record). AllPassed (checks d)) e v.passed))
+by_valid f g y c (Err n) b is = is ∙ sym (first_broken f (g c) (checks c) n b)
 
 -- no check of a record has the number 0
 pub above_none : (c : Record) → Every (λ r. 0 < refusal_number r) (refusals (checks c))

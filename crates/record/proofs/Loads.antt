@@ -1,5 +1,5 @@
 -- Laws for the code: what a record that breaks no check allows to be called, the stresses of a group as loads, and the bounds of the sum. Assumes nothing.
-use mathlib.Core.Path.{◌≡◌, refl, sym, ap, ◌∙◌, subst}
+use mathlib.Core.Path.{◌≡◌, refl, sym, subst}
 use mathlib.Core.Bool.{true}
 use Prim.Native.Nat.{ℕ, ◌≤◌, ◌<◌}
 use native.Mathlib.Omega.{arith}
@@ -14,6 +14,7 @@ use Rattle.pressure.specs.WholeGain.{tested_at, line_bounds}
 use Rattle.term.specs.declared.Load.{Load}
 use Rattle.bounds.specs.Stresses.{fraction_of}
 use Rattle.answer.specs.Checks.{AllPassed}
+use Rattle.line_bounds.specs.declared.Pressed.{Pressed}
 use Rattle.line_bounds.specs.declared.Worked.{Worked}
 use Rattle.line_bounds.specs.Places.{Whole, WorkedFor, line_of}
 use Rattle.line_bounds.proofs.Wanted.{worked_same}
@@ -44,10 +45,11 @@ ring_loaded s (Stress σφ) some = lt-ltb 0 σφ some
 ring_loaded s (Wind w v) some = refl
 
 -- what was worked for the places that a record needs serves it
-pub worked_on : {A R H : Type 0} {o : Order} (c : Record) (s : Cylinder) (p : ℕ) (w : Worked) → s ≡ cylinder_of c.wall → p ≡ pressure_of c.inner →
-    (ltb 0 c.group.axial ≡ true → A) → (has_ring c.group.ring ≡ true → R) → (ltb 0 c.group.shear ≡ true → H) → WorkedFor o s p A R H w → WorkedOn o c w
-worked_on c s p w e f a r h k =
-    worked_same _ _ _ _ _ e f (λ n. a (lt-ltb 0 c.group.axial n)) (λ n. r (ring_loaded (cylinder_of c.wall) c.group.ring n)) (λ n. h (lt-ltb 0 c.group.shear n)) k
+pub worked_on : {A R H : Type 0} (o : Order) (c : Record) (v : Pressed) (w : Worked) → v.order ≡ o → v.shell.cylinder ≡ cylinder_of c.wall → v.pressure.pascals ≡ pressure_of c.inner →
+    (ltb 0 c.group.axial ≡ true → A) → (has_ring c.group.ring ≡ true → R) → (ltb 0 c.group.shear ≡ true → H) → WorkedFor v.order v.shell.cylinder v.pressure.pascals A R H w → WorkedOn o c w
+worked_on o c v w d e f a r h k =
+    subst (λ (x : Order). WorkedOn x c w) d
+    (worked_same _ _ _ _ _ e f (λ n. a (lt-ltb 0 c.group.axial n)) (λ n. r (ring_loaded (cylinder_of c.wall) c.group.ring n)) (λ n. h (lt-ltb 0 c.group.shear n)) k)
 
 -- a whole stress as a load
 load_whole : {x : ℕ} (l : Load) → (l.num ≡ x) × (l.den ≡ 1) → fraction_of l ≡ whole x
@@ -57,10 +59,8 @@ pub load_whole_range : {x : ℕ} (l : Load) → (l.num ≡ x) × (l.den ≡ 1) �
 load_whole_range l (n, d) h = (omega (arith, n, h), d)
 
 -- the bounds of a group's loads are those of its record
-pub bounds_are : (o : Order) (c : Record) (s : Cylinder) (p : ℕ) (l : ByStress Load) (y : ℕ) → s ≡ cylinder_of c.wall → p ≡ pressure_of c.inner → y ≡ ring_stress s c.group.ring →
-    (l.axial.num ≡ c.group.axial) × (l.axial.den ≡ 1) → (l.ring.num ≡ y) × (l.ring.den ≡ 1) → (l.shear.num ≡ c.group.shear) × (l.shear.den ≡ 1) → line_of o s p l ≡ bounds_of o c
+pub bounds_are : (o : Order) (c : Record) (w : Pressed) (l : ByStress Load) → w.order ≡ o → w.shell.cylinder ≡ cylinder_of c.wall → w.pressure.pascals ≡ pressure_of c.inner →
+    (l.axial.num ≡ c.group.axial) × (l.axial.den ≡ 1) → (l.ring.num ≡ ring_stress (cylinder_of c.wall) c.group.ring) × (l.ring.den ≡ 1) → (l.shear.num ≡ c.group.shear) × (l.shear.den ≡ 1) →
+    line_of w.order w.shell.cylinder w.pressure.pascals l ≡ bounds_of o c
 unfolding bounds_of
-bounds_are o c s p l y e f r ax ri sh = λ i. line_bounds (e i) (f i) (tested_at o (e i)) (load_whole l.axial ax i) (load_whole l.ring ring i) (load_whole l.shear sh i)
-  where
-    ring : (l.ring.num ≡ ring_stress (cylinder_of c.wall) c.group.ring) × (l.ring.den ≡ 1)
-    ring = (ri.0 ∙ r ∙ ap (λ (t : Cylinder). ring_stress t c.group.ring) e, ri.1)
+bounds_are o c w l d e f ax ri sh = λ i. line_bounds (e i) (f i) (tested_at (d i) (e i)) (load_whole l.axial ax i) (load_whole l.ring ri i) (load_whole l.shear sh i)

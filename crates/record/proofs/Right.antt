@@ -18,14 +18,14 @@ use Rattle.pressure.proofs.Lines.{line_down, line_bounds_within}
 use Rattle.cylinder.proofs.Verdict
 use Rattle.std.specs.Prelude.{Ok, Err}
 use Rattle.answer.specs.declared.Refusal.{Refusal}
-use Rattle.answer.specs.Answers.{Answer, refusal_number}
+use Rattle.answer.specs.Answers.{Answer, verdict_of, refusal_number}
 use Rattle.answer.specs.declared.Verdict.{Verdict}
 use Rattle.answer.specs.declared.Verdict.TheVariants.{Holds, Fails, Open}
 use Rattle.answer.specs.declared.Judgement.{Judgement}
 use Rattle.answer.specs.Answering.{Bounded}
 use Rattle.answer.specs.Checks.{Check, AllPassed}
 use Rattle.answer.specs.Right.{RightBy, AsCase, refused, judged}
-use Rattle.answer.proofs.Checks.{refusals, Among, among_every, broken_passed}
+use Rattle.answer.proofs.Checks.{Among, among_every, broken_passed}
 use Rattle.answer.proofs.Right
 use Rattle.answer.proofs.Verdicts.{verdict_holds, verdict_fails, verdict_open, holds_verdict, fails_verdict}
 use Rattle.record.specs.declared.Record.{Record}
@@ -49,15 +49,21 @@ pub record_right : (o : Order) (c : Record) → Right o c (record_answer o c)
 unfolding record_answer
 record_right o c = Right.answer_by_right (checks c) (AsCase 1 (Bounds o c)) (judgement_of_record o c) refl (λ all. (bounds_right o c all, refl))
 
+-- the refusals of a record's checks, which those of load cases have too: 6 to 11, 13 and 16
+abbrev pub record_refusals : List Refusal
+record_refusals = Refusal.Range ∷ Refusal.Edges ∷ Refusal.Shortfall ∷ Refusal.WallRatio ∷ Refusal.LengthRatio ∷ Refusal.Imperfection ∷ Refusal.Wind ∷ Refusal.Pressure ∷ []
+
+pub record_range : (r : Refusal) → Among r record_refusals → (6 ≤ refusal_number r) × (refusal_number r ≤ 16)
+record_range r among = among_every (λ m. (6 ≤ refusal_number m) × (refusal_number m ≤ 16)) record_refusals r among
+    ((lit≤ tt, lit≤ tt), ((lit≤ tt, lit≤ tt), ((lit≤ tt, lit≤ tt), ((lit≤ tt, lit≤ tt), ((lit≤ tt, lit≤ tt), ((lit≤ tt, lit≤ tt), ((lit≤ tt, lit≤ tt), ((lit≤ tt, lit≤ tt), tt))))))))
+
 module _ (o : Order) (c : Record) where
   -- SCOPE 11.6, 20.7, 22.7 and 25.1: no other refusal than 6 to 11, 13 and 16
-  pub meets : (r : Refusal) → Right o c (Err r) → Among r
-      (Refusal.Range ∷ Refusal.Edges ∷ Refusal.Shortfall ∷ Refusal.WallRatio ∷ Refusal.LengthRatio ∷ Refusal.Imperfection ∷ Refusal.Wind ∷ Refusal.Pressure ∷ [])
+  pub meets : (r : Refusal) → Right o c (Err r) → Among r record_refusals
   meets r right = Right.refused_among (checks c) (AsCase 1 (Bounds o c)) r right
 
   pub refusal_range : (r : Refusal) → Right o c (Err r) → (6 ≤ refusal_number r) × (refusal_number r ≤ 16)
-  refusal_range r right = among_every (λ m. (6 ≤ refusal_number m) × (refusal_number m ≤ 16)) (refusals (checks c)) r (meets r right)
-      ((lit≤ tt, lit≤ tt), ((lit≤ tt, lit≤ tt), ((lit≤ tt, lit≤ tt), ((lit≤ tt, lit≤ tt), ((lit≤ tt, lit≤ tt), ((lit≤ tt, lit≤ tt), ((lit≤ tt, lit≤ tt), ((lit≤ tt, lit≤ tt), tt))))))))
+  refusal_range r right = record_range r (meets r right)
 
   -- L, U and the case fit the number of an answer
   pub right_bounded : (a : Answer) → Right o c a → Bounded a
@@ -144,20 +150,20 @@ module _ (o : Order) (c : Record) (i j : Judgement) (I : Bounds o c i) (J : Boun
 
 -- without pressure: where the program's U is at most 9,998, every right answer holds; where its L is at least 10,003, every one fails
 module _ (o : Order) (c : Record) (none : pressure_of c.inner ≡ 0) (all : AllPassed (checks c)) (a : Answer) (r : Right o c a) where
-  pub only_holds : (bounds_of o c).high ≤ 9998 → (j : Judgement) × ((a ≡ Ok j) × (j.verdict ≡ Holds))
-  only_holds h = go a r
+  -- where all bounds that are right have one verdict, the answer is a judgement with it
+  only : (v : Verdict) → ((j : Judgement) → Bounds o c j → verdict_of j.low j.high ≡ v) → (j : Judgement) × ((a ≡ Ok j) × (j.verdict ≡ v))
+  only v says = go a r
     where
-      go : (x : Answer) → Right o c x → (j : Judgement) × ((x ≡ Ok j) × (j.verdict ≡ Holds))
+      go : (x : Answer) → Right o c x → (j : Judgement) × ((x ≡ Ok j) × (j.verdict ≡ v))
       go _ (refused n f) = absurd (broken_passed (checks c) n f all)
-      go _ (judged j p (b, _) v) =
-          let lap = overlap o c j (judgement_of_record o c) b (bounds_right o c all) in
-          (j, (refl, v ∙ holds_verdict j.low j.high (omega (arith, close_plain o c j none b, lap))))
+      go _ (judged j p (b, _) is) = (j, (refl, is ∙ says j b))
+
+  pub only_holds : (bounds_of o c).high ≤ 9998 → (j : Judgement) × ((a ≡ Ok j) × (j.verdict ≡ Holds))
+  only_holds h =
+      only Holds
+      (λ j b. let lap = overlap o c j (judgement_of_record o c) b (bounds_right o c all) in holds_verdict j.low j.high (omega (arith, close_plain o c j none b, lap)))
 
   pub only_fails : 10003 ≤ (bounds_of o c).low → (j : Judgement) × ((a ≡ Ok j) × (j.verdict ≡ Fails))
-  only_fails h = go a r
-    where
-      go : (x : Answer) → Right o c x → (j : Judgement) × ((x ≡ Ok j) × (j.verdict ≡ Fails))
-      go _ (refused n f) = absurd (broken_passed (checks c) n f all)
-      go _ (judged j p (b, _) v) =
-          let lap = overlap o c (judgement_of_record o c) j (bounds_right o c all) b in
-          (j, (refl, v ∙ fails_verdict j.low j.high (omega (arith, close_plain o c j none b, lap)) (omega (arith, lap, h))))
+  only_fails h =
+      only Fails
+      (λ j b. let lap = overlap o c (judgement_of_record o c) j (bounds_right o c all) b in fails_verdict j.low j.high (omega (arith, close_plain o c j none b, lap)) (omega (arith, lap, h)))

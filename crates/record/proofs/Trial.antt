@@ -8,13 +8,19 @@ use Rattle.pressure.specs.declared.Order.TheVariants.{PressureFirst}
 use Rattle.pressure.specs.WholeGain.{line_bounds}
 use Rattle.answer.specs.declared.Verdict.TheVariants.{Holds, Fails}
 use Rattle.answer.specs.Checks.{AllPassed}
+use Rattle.answer.specs.Answering.{refusal_by}
+use Rattle.answer.proofs.Checks.{refusal_none}
+use Rattle.std.specs.Prelude.{Ok}
 use Rattle.record.specs.declared.Record.{Record}
 use Rattle.record.specs.Limits.{pressure_of, checks}
 use Rattle.record.specs.Answering.{bounds_of}
 use Rattle.record.specs.Trial.{B, B2000, Row, TrialRows}
 use Rattle.record.proofs.Right.{bounds_right, record_down, only_holds, only_fails}
 
-module _ (c : Record) (plain : pressure_of c.inner ≡ 0) (all : AllPassed (checks c)) where
+module _ (c : Record) (plain : pressure_of c.inner ≡ 0) (passes : Ok tt ≡ refusal_by (checks c)) where
+  all : AllPassed (checks c)
+  all = refusal_none (checks c) passes
+
   holding : (bounds_of PressureFirst c).high ≤ 9998 → Row c Holds
   holding h =
       record { meant = Verdict.holds_only (bounds_right PressureFirst c all).encloses (record_down PressureFirst c) (omega arith); answered = λ a r. only_holds PressureFirst c plain all a r h }
@@ -26,16 +32,16 @@ pub trial_rows : TrialRows
 unfolding bounds_of line_bounds
 trial_rows =
     record {
-      axial_holds = holding (B 20700 0 0) refl (refl, (refl, (refl, (refl, (refl, (refl, (refl, (refl, tt)))))))) (lit≤ tt);
-      axial_fails = failing (B 21200 0 0) refl (refl, (refl, (refl, (refl, (refl, (refl, (refl, (refl, tt)))))))) (lit≤ tt);
-      ring_holds = holding (B 0 2200 0) refl (refl, (refl, (refl, (refl, (refl, (refl, (refl, (refl, tt)))))))) (lit≤ tt);
-      ring_fails = failing (B 0 2300 0) refl (refl, (refl, (refl, (refl, (refl, (refl, (refl, (refl, tt)))))))) (lit≤ tt);
-      shear_holds = holding (B 0 0 11500) refl (refl, (refl, (refl, (refl, (refl, (refl, (refl, (refl, tt)))))))) (lit≤ tt);
-      shear_fails = failing (B 0 0 11900) refl (refl, (refl, (refl, (refl, (refl, (refl, (refl, (refl, tt)))))))) (lit≤ tt);
-      together_holds = holding (B 10000 1000 5000) refl (refl, (refl, (refl, (refl, (refl, (refl, (refl, (refl, tt)))))))) (lit≤ tt);
-      together_fails = failing (B 10000 1000 6500) refl (refl, (refl, (refl, (refl, (refl, (refl, (refl, (refl, tt)))))))) (lit≤ tt);
-      excess_holds = holding (B2000 11100 0 0) refl (refl, (refl, (refl, (refl, (refl, (refl, (refl, (refl, tt)))))))) (lit≤ tt);
-      excess_fails = failing (B2000 11600 0 0) refl (refl, (refl, (refl, (refl, (refl, (refl, (refl, (refl, tt)))))))) (lit≤ tt);
-      unloaded_holds = holding (B 0 0 0) refl (refl, (refl, (refl, (refl, (refl, (refl, (refl, (refl, tt)))))))) (lit≤ tt);
-      most_shear_fails = failing (B 0 0 700000) refl (refl, (refl, (refl, (refl, (refl, (refl, (refl, (refl, tt)))))))) (lit≤ tt);
+      axial_holds = holding (B 20700 0 0) refl refl (lit≤ tt);
+      axial_fails = failing (B 21200 0 0) refl refl (lit≤ tt);
+      ring_holds = holding (B 0 2200 0) refl refl (lit≤ tt);
+      ring_fails = failing (B 0 2300 0) refl refl (lit≤ tt);
+      shear_holds = holding (B 0 0 11500) refl refl (lit≤ tt);
+      shear_fails = failing (B 0 0 11900) refl refl (lit≤ tt);
+      together_holds = holding (B 10000 1000 5000) refl refl (lit≤ tt);
+      together_fails = failing (B 10000 1000 6500) refl refl (lit≤ tt);
+      excess_holds = holding (B2000 11100 0 0) refl refl (lit≤ tt);
+      excess_fails = failing (B2000 11600 0 0) refl refl (lit≤ tt);
+      unloaded_holds = holding (B 0 0 0) refl refl (lit≤ tt);
+      most_shear_fails = failing (B 0 0 700000) refl refl (lit≤ tt);
     }

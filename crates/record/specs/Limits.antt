@@ -89,7 +89,8 @@ pressure_of (Some p) = p
 abbrev pub pressure_allowed : Option ℕ → Bool
 pressure_allowed i = leb (pressure_of i) 1000000
 
--- ---- the checks of a record, in their order
+-- ---- the checks of a record, in their order. Each check is written out, and so are those of Unpressed and Nominal, which leave one out: the three lists stand
+-- side by side, to be read beside docs/SCOPE.md.
 abbrev pub checks : Record → List Check
 checks c =
     check Refusal.Range (in_range c)

@@ -19,6 +19,7 @@ use Rattle.record.specs.Answering.{group_bounds}
 abbrev pub nominal_ratio : Wall → Bool
 nominal_ratio w = from_to (20 * w.thickness) (2500 * w.thickness) (100 * w.radius)
 
+-- those of Limits but for 11, and with 8 by the nominal wall, written out to be read beside docs/SCOPE.md
 abbrev pub nominal_checks : Record → List Check
 nominal_checks c =
     check Refusal.Range (in_range c)

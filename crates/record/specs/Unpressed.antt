@@ -13,6 +13,7 @@ use Rattle.record.specs.declared.Record.{Record}
 use Rattle.record.specs.Limits.{in_range, edges_known, shortfall_allowed, wall_ratio, length_ratio, tolerated, wind_allowed, cylinder_of}
 use Rattle.record.specs.Right.{ring_stress, BoundsOf}
 
+-- those of Limits but for 16, written out to be read beside docs/SCOPE.md
 abbrev pub unpressed_checks : Record → List Check
 unpressed_checks c =
     check Refusal.Range (in_range c)

@@ -1,8 +1,8 @@
 // One record: its limits, and its judge.
 #![tactic(auto)]
 
-ghost use Rattle.std.specs.Prelude.{◌≡◌, true, ◌*◌, ◌≤◌};
-ghost use Rattle.answer.specs.Checks.{AllPassed};
+ghost use Rattle.std.specs.Prelude.{◌≡◌, true, ◌*◌, ◌≤◌, MatchResult};
+ghost use Rattle.answer.specs.Checks.{AllPassed, FirstBroken};
 ghost use Rattle.answer.specs.Answering.{refusal_by};
 ghost use Rattle.line_bounds.specs.Means.{GainMeans};
 ghost use Rattle.record.specs.Limits.{from_to, in_range, dimensions, material, ring_in_range, stresses, edges_known, effective_wall, wall_ratio, length_ratio, wind_allowed, pressure_of, checks, cylinder_of, unpressed, with_inner};
@@ -13,11 +13,12 @@ ghost use Rattle.record.specs.Answering.{has_ring, wanted_of, WorkedOn, judgemen
 use answer::{Answer, Judgement, Refusal};
 use bounds::Load;
 use cylinder::{ByStress, Cylinder, ValidCylinder};
-use guess::Roots;
-use line_bounds::{Gain, Worked};
-use pressure::Order;
+use line_bounds::{Gain, Pressed, Worked};
+use pressure::{Order, ValidPressure};
 
 // A shell without its load: its wall, material and edges. Each field is any u64.
+// Cylinder and the plates' Shell have fields of the same names. A part that they share would save the lines of the two functions that copy them, and
+// cost a nested name wherever code or a definition reads one.
 #[derive(Clone, Copy)]
 pub struct Wall {
     // r, radius of the middle surface, mm
@@ -43,7 +44,8 @@ pub struct Wall {
 pub enum Ring {
     // σφ
     Stress(u64),
-    // w, gust pressure at the stagnation point, N/m²; v, 0 for a closed shell, 1 for an open or vented one, and any number until check 13 is made
+    // w, gust pressure at the stagnation point, N/m²; v, 0 for a closed shell, 1 for an open or vented one, and any number until check 13 is made.
+    // No names of fields: the definitions have `Wind w v`, in this order.
     Wind(u64, u64),
 }
 
@@ -58,7 +60,8 @@ pub struct Group {
     pub shear: u64,
 }
 
-// A shell with its load.
+// A shell with its load. Cases has the wall and the pressure likewise, with a list of groups. A part that they share would save two fields, and cost a
+// nested name wherever code or a definition reads one; a type of both by a parameter for the groups would be named with it in each definition.
 #[derive(Clone, Copy)]
 pub struct Record {
     pub wall: Wall,
@@ -74,7 +77,8 @@ fn in_range(x: u64, low: u64, high: u64) -> bool
     (low..=high).contains(&x)
 }
 
-// A whole stress.
+// A whole stress. Its bound is asked here, and said where wind gives a stress (`stress_on` and `ring_stress` below), in clauses: a type of a stress
+// within it would be a third beside the number, which `Record::ring_stress` gives, and the Load.
 fn load(stress: u64) -> Load
     requires { stress ≤ 700000 }
     ensures { (result.num ≡ stress) × (result.den ≡ 1) }
@@ -117,7 +121,8 @@ impl Wall {
         )
     }
 
-    // The effective wall in 200ths of a mm.
+    // The effective wall in 200ths of a mm. That the thickness is within its range is a clause, here and below, and no type of a wall in its ranges:
+    // `cylinder` asks its callers for the thickness alone, and such a type would ask them for the other ranges too.
     fn effective_wall(self) -> u64
         requires { self.thickness ≤ 10000 }
         ensures value { result ≡ effective_wall self }
@@ -215,7 +220,7 @@ impl Ring {
 }
 
 impl Group {
-    // No stress at all.
+    // No stress at all. A name and no `Default`: where it stands, it is said that no stress is meant.
     pub const NONE: Group = Group {
         axial: 0,
         ring: Ring::Stress(0),
@@ -244,6 +249,7 @@ impl Group {
 }
 
 impl Record {
+    // Each limit is a constant, as SCOPE 17.3 has it, also where two make a range: a caller may need one end (the plates do), and check 8 multiplies both.
     pub const RADIUS_LEAST: u64 = 100;
 
     pub const RADIUS_MOST: u64 = 50000;
@@ -342,67 +348,29 @@ impl Record {
         Ok(())
     }
 
-    // The cylinder of a record that breaks no check.
-    pub fn cylinder(self) -> ValidCylinder
-        requires { AllPassed (checks self) }
-        ensures { result.cylinder ≡ cylinder_of self.wall }
+    // The record as one that breaks no check, or the refusal of the first check that it breaks.
+    fn valid(self) -> Result<ValidRecord, Refusal>
+        ensures { MatchResult result (λ v. v.given ≡ self) (FirstBroken (checks self)) }
     {
-        ValidCylinder {
-            cylinder: self.wall.cylinder(),
-        }
+        self.check()?;
+        Ok(ValidRecord { given: self })
     }
 
-    // The judgement of a record that breaks no check, where what depends on the wall alone has been worked before.
-    pub fn judgement_by(self, o: Order, roots: &Roots, w: Worked) -> Judgement
-        requires { AllPassed (checks self) × WorkedOn o self w }
-        ensures { result ≡ judgement_of_record o self }
-    {
-        let s = self.cylinder();
-        let group = self.group;
-        let loads = ByStress {
-            axial: load(group.axial),
-            ring: load(group.ring.stress_on(s)),
-            shear: load(group.shear),
-        };
-        let l = line_bounds::of_group(roots, o, s, self.pressure(), w, loads);
-        Judgement::by_bounds(l.low, l.high)
-    }
-
-    // The same, of a record alone.
-    fn judgement(self, o: Order) -> Judgement
-        requires { AllPassed (checks self) }
-        ensures { result ≡ judgement_of_record o self }
-    {
-        let roots = Roots::new();
-        let w = line_bounds::work(
-            &roots,
-            o,
-            self.cylinder(),
-            self.pressure(),
-            self.group.wanted(),
-        );
-        self.judgement_by(o, &roots, w)
-    }
-
-    // The ring stress that the record is judged with; 0, and no case apart for the callers, where it breaks a check.
+    // The ring stress that the record is judged with; 0 where it breaks a check: the contract says so of any record (`ring_stress_of`), and keeps its meaning.
     pub fn ring_stress(self) -> u64
         ensures { result ≡ ring_stress_of self }
     {
-        match self.check() {
-            Ok(()) => self.group.ring.stress_on(self.cylinder()),
-            Err(_) => 0,
-        }
+        self.valid().map_or(0, |valid| valid.ring_stress())
     }
 
-    // What the pressure does to a record that breaks no check, by a reading of its test; nothing, where it breaks one.
+    // What the pressure does to a record that breaks no check, by a reading of its test; `Idle` where it breaks one, as
+    // `gain_of_record` has it of any record.
     pub fn gain(self, o: Order) -> Gain
         ensures value { result ≡ gain_of_record o self }
         ensures gain_means { AllPassed (checks self) → GainMeans o (cylinder_of self.wall) (pressure_of self.inner) result }
     {
-        match self.check() {
-            Ok(()) => { line_bounds::gain_under(o, self.cylinder(), self.pressure()) }
-            Err(_) => Gain::Idle,
-        }
+        self.valid()
+            .map_or(Gain::Idle, |valid| valid.pressed(o).gain_under())
     }
 
     // The answer to a record, by a reading of the pressure's test: the refusal of the first check that it breaks, or the judgement.
@@ -410,8 +378,7 @@ impl Record {
         ensures value { result ≡ record_answer o self }
         ensures right { Right o self result }
     {
-        self.check()?;
-        Ok(self.judgement(o))
+        Ok(self.valid()?.judgement(o))
     }
 
     // The record of a shell and a stress group, without pressure inside.
@@ -432,11 +399,75 @@ impl Record {
         Record { inner, ..self }
     }
 
-    // The answer to the record of a shell and a stress group.
+    // The answer to the record of a shell and a stress group. SCOPE 17.3 asks for it, as for a constructor: the calls of the library go by `answer`.
     pub fn judge(wall: Wall, group: Group) -> Answer
         ensures value { result ≡ record_answer PressureFirst (unpressed wall group) }
         ensures right { Right PressureFirst (unpressed wall group) result }
     {
         Self::of(wall, group).answer(Order::PressureFirst)
+    }
+}
+
+// A record that breaks no check.
+#[derive(Clone, Copy)]
+pub struct ValidRecord {
+    // as it was given
+    pub given: Record,
+    pub ghost passed: { AllPassed (checks given) },
+}
+
+impl ValidRecord {
+    // Its cylinder.
+    pub fn cylinder(self) -> ValidCylinder
+        ensures { result.cylinder ≡ cylinder_of self.given.wall }
+    {
+        ValidCylinder {
+            cylinder: self.given.wall.cylinder(),
+        }
+    }
+
+    // Its cylinder with the pressure inside, by a reading of the pressure's test.
+    pub fn pressed(self, o: Order) -> Pressed
+        ensures order { result.order ≡ o }
+        ensures shell { result.shell.cylinder ≡ cylinder_of self.given.wall }
+        ensures pressure { result.pressure.pascals ≡ pressure_of self.given.inner }
+    {
+        let pascals = self.given.pressure();
+        Pressed {
+            order: o,
+            shell: self.cylinder(),
+            pressure: ValidPressure { pascals },
+        }
+    }
+
+    // The ring stress that it is judged with.
+    fn ring_stress(self) -> u64
+        ensures value { result ≡ ring_stress (cylinder_of self.given.wall) self.given.group.ring }
+        ensures upper_bound { result ≤ 700000 }
+    {
+        self.given.group.ring.stress_on(self.cylinder())
+    }
+
+    // The judgement, where what depends on the wall and the pressure alone has been worked before.
+    pub fn judgement_by(self, o: Order, w: Worked) -> Judgement
+        requires { WorkedOn o self.given w }
+        ensures { result ≡ judgement_of_record o self.given }
+    {
+        let group = self.given.group;
+        let loads = ByStress {
+            axial: load(group.axial),
+            ring: load(self.ring_stress()),
+            shear: load(group.shear),
+        };
+        let l = self.pressed(o).of_group(w, loads);
+        Judgement::by_bounds(l.low, l.high)
+    }
+
+    // The same, of a record alone.
+    fn judgement(self, o: Order) -> Judgement
+        ensures { result ≡ judgement_of_record o self.given }
+    {
+        let w = self.pressed(o).work(self.given.group.wanted());
+        self.judgement_by(o, w)
     }
 }

@@ -13,23 +13,20 @@ use Rattle.root_order.proofs.Decision.{decides}
 
 -- ---- plain numbers
 
-shear_d : (r l f q : ℕ) → prod (25600000000 ∷ r ∷ l ∷ l ∷ l ∷ l ∷ f ∷ f ∷ q ∷ q ∷ q ∷ q ∷ []) ≡ 25600000000 * l ^ 4 * r * f ^ 2 * q ^ 4
+pub shear_d : (r l f q : ℕ) → prod (25600000000 ∷ r ∷ l ∷ l ∷ l ∷ l ∷ f ∷ f ∷ q ∷ q ∷ q ∷ q ∷ []) ≡ 25600000000 * l ^ 4 * r * f ^ 2 * q ^ 4
 shear_d r l f q = ring (r ∷ l ∷ f ∷ q ∷ []) (search quoted depth 60 fits 100000) refl
 
-shear_c : (E w r p : ℕ) → prod (1134 ∷ E ∷ E ∷ w ∷ w ∷ w ∷ w ∷ r ∷ p ∷ p ∷ p ∷ p ∷ []) ≡ 1134 * E ^ 2 * w ^ 4 * r * p ^ 4
+pub shear_c : (E w r p : ℕ) → prod (1134 ∷ E ∷ E ∷ w ∷ w ∷ w ∷ w ∷ r ∷ p ∷ p ∷ p ∷ p ∷ []) ≡ 1134 * E ^ 2 * w ^ 4 * r * p ^ 4
 shear_c E w r p = ring (E ∷ w ∷ r ∷ p ∷ []) (search quoted depth 60 fits 100000) refl
 
-shear_e : (E w l p : ℕ) → prod (1080000 ∷ E ∷ E ∷ w ∷ w ∷ l ∷ l ∷ l ∷ p ∷ p ∷ p ∷ p ∷ []) ≡ 1080000 * E ^ 2 * l ^ 3 * w ^ 2 * p ^ 4
+pub shear_e : (E w l p : ℕ) → prod (1080000 ∷ E ∷ E ∷ w ∷ w ∷ l ∷ l ∷ l ∷ p ∷ p ∷ p ∷ p ∷ []) ≡ 1080000 * E ^ 2 * l ^ 3 * w ^ 2 * p ^ 4
 shear_e E w l p = ring (E ∷ w ∷ l ∷ p ∷ []) (search quoted depth 60 fits 100000) refl
 
 -- ---- the row
 
 -- X and Y: d q⁴ and c p⁴, D their difference, Z: e p⁴
-pub shear_short_row : (s : Cylinder) (p q : ℕ) {o : Ordering} {X Y D Z : ℕ} → X ≡ prod (25600000000 ∷ s.radius ∷ s.length ∷ s.length ∷ s.length ∷ s.length ∷ s.yield_stress ∷ s.yield_stress ∷ q ∷ q ∷ q ∷ q ∷ [])
-    → Y ≡ prod (1134 ∷ s.modulus ∷ s.modulus ∷ s.wall ∷ s.wall ∷ s.wall ∷ s.wall ∷ s.radius ∷ p ∷ p ∷ p ∷ p ∷ []) → D ≡ X - Y
-    → Z ≡ prod (1080000 ∷ s.modulus ∷ s.modulus ∷ s.wall ∷ s.wall ∷ s.length ∷ s.length ∷ s.length ∷ p ∷ p ∷ p ∷ p ∷ [])
+pub shear_short_row : (s : Cylinder) (p q : ℕ) {o : Ordering} {X Y D Z : ℕ} → X ≡ 25600000000 * s.length ^ 4 * s.radius * s.yield_stress ^ 2 * q ^ 4
+    → Y ≡ 1134 * s.modulus ^ 2 * s.wall ^ 4 * s.radius * p ^ 4 → D ≡ X - Y → Z ≡ 1080000 * s.modulus ^ 2 * s.length ^ 3 * s.wall ^ 2 * p ^ 4
     → o ≡ nat_cmp (Z ^ 2 * s.wall) (D ^ 2 * (200 * s.radius)) → Decides o (shear_short_cut s) p q
 shear_short_row s p q x y d z e =
-    decides (shear_short_cut s) p q e (ap (λ (n : ℕ). n ^ 2 * s.wall) (z ∙ shear_e s.modulus s.wall s.length p))
-    (ap (λ (n : ℕ). n ^ 2 * (200 * s.radius))
-    (d ∙ ap₂ ◌-◌ (x ∙ shear_d s.radius s.length s.yield_stress q) (y ∙ shear_c s.modulus s.wall s.radius p))) refl refl
+    decides (shear_short_cut s) p q e (ap (λ (n : ℕ). n ^ 2 * s.wall) z) (ap (λ (n : ℕ). n ^ 2 * (200 * s.radius)) (d ∙ ap₂ ◌-◌ x y)) refl refl

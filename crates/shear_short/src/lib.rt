@@ -2,18 +2,17 @@
 // sides are compared by their squares. Nothing is rounded.
 #![tactic(auto)]
 
-ghost use Rattle.cylinder.specs.InLimits.{InLimits};
 ghost use Rattle.cylinder.specs.WholeIdeal.{shear_short_cut};
 ghost use Rattle.root_order.specs.Decision.{Decides};
 
-use cylinder::Cylinder;
+use cylinder::ValidCylinder;
 use std::cmp::Ordering;
 
-// Shear, short: e √(w/(200 r)) against d q⁴/p⁴ - c.
-pub fn shear_short_order(s: Cylinder, p: u64, q: u64) -> Ordering
-    requires { InLimits s }
-    ensures { Decides result (shear_short_cut s) p q }
+// Shear, short: t √(w/(200 r)) against d, a difference, with p⁴ in t and in what is taken off d, and q⁴ in the rest of d.
+pub fn shear_short_order(shell: ValidCylinder, p: u64, q: u64) -> Ordering
+    ensures { Decides result (shear_short_cut shell.cylinder) p q }
 {
+    let s = shell.cylinder;
     let e = s.modulus;
     let w = s.wall;
     let r = s.radius;

@@ -20,7 +20,7 @@ use text::Page;
 use total::put_total;
 
 // A line of more bytes is refused.
-const LINE_MOST: usize = 512;
+pub const LINE_MOST: usize = 512;
 
 // The answer to a line, by a reading of the pressure's test: refused if it is too long or not of the form, else the answer to its load cases.
 pub fn answer(line: &[u8], o: Order) -> Answer
@@ -30,13 +30,11 @@ pub fn answer(line: &[u8], o: Order) -> Answer
     if LINE_MOST < line.len() {
         return Err(Refusal::LineBytes);
     }
-    let Some(cases) = read(line) else {
-        return Err(Refusal::Form);
-    };
-    cases.answer(o)
+    read(line).ok_or(Refusal::Form)?.answer(o)
 }
 
 // Writes the listing of a sheet to the start of `out`, and answers what is said of it.
+// `readings::put_rows` has a loop of its own: it puts rows by the numbers of lines, and this one counts answers on the way and puts a total.
 fn put_listing(sheet: &[u8], out: &mut [u8]) -> Listed
     requires { (length sheet.now ≤ 65535) × (length (listing sheet.now) ≤ length out.old) }
     ensures value { result ≡ listed_by ruled sheet.now }

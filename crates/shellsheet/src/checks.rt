@@ -1,4 +1,4 @@
-// Refusals 6 to 11, 13 and 16 in words: what broke the check.
+// The refusals of a record in words: what broke the check.
 use crate::say::Decimal;
 use answer::Refusal;
 use record::{Group, Record, Ring, Wall};
@@ -63,7 +63,7 @@ fn say_stresses(rt: &impl Print, g: Group) -> io::Result<()> {
     say_stress(rt, "tau (kN/m2)", g.shear)
 }
 
-// 6: each field that is outside its range.
+// Range: each field that is outside its own.
 fn say_ranges(rt: &impl Print, w: Wall, g: Group) -> io::Result<()> {
     print!(rt; "out of range")?;
     say_dimensions(rt, w)?;
@@ -71,33 +71,36 @@ fn say_ranges(rt: &impl Print, w: Wall, g: Group) -> io::Result<()> {
     say_stresses(rt, g)
 }
 
-// 7
+// Edges: no digit pair that is known.
 fn say_edges(rt: &impl Print, edges: u64) -> io::Result<()> {
-    let hint = if edges == 21 {
-        "; 21 is written 12"
-    } else {
-        ""
-    };
-    print!(rt; "the edges are {edges}, not 11, 12 or 22{hint}")
+    let held = Record::EDGES_HELD;
+    let mixed = Record::EDGES_MIXED;
+    let free = Record::EDGES_FREE;
+    print!(rt; "the edges are {edges}, not {held}, {mixed} or {free}")?;
+    if edges == 21 {
+        print!(rt; "; 21 is written {mixed}")?;
+    }
+    Ok(())
 }
 
-// 10, 11 and 16
+// Imperfection, Shortfall and Pressure: a field that is over the most.
 fn say_over(rt: &impl Print, what: &str, x: u64, most: u64) -> io::Result<()> {
     print!(rt; "the {what} is {x}, over {most}")
 }
 
-// What the effective wall lacks of the nominal one, 200ths of a mm.
-fn shortfall_counted(t: u64, d: u64) -> u64 {
-    if Record::THICKNESS_AS_NOMINAL <= t {
+// What the effective wall lacks of the nominal one, 200ths of a mm. `Wall` has the effective wall for a t that is in its range, which no type shows here (see `record`).
+fn shortfall_counted(w: Wall) -> u64 {
+    if Record::THICKNESS_AS_NOMINAL <= w.thickness {
         0
     } else {
-        d
+        w.shortfall
     }
 }
 
 // The effective wall, 200ths of a mm; 0 where d is over it.
-fn effective_wall(t: u64, d: u64) -> u64 {
-    t.saturating_mul(2).saturating_sub(shortfall_counted(t, d))
+fn effective_wall(w: Wall) -> u64 {
+    let nominal = w.thickness.saturating_mul(2);
+    nominal.saturating_sub(shortfall_counted(w))
 }
 
 // A ratio outside its limits, in ten-thousandths: rounded away from them.
@@ -118,30 +121,45 @@ impl Outside {
     }
 }
 
-// 8: r over a wall.
-fn say_wall_ratio(rt: &impl Print, r: u64, t: u64, d: u64) -> io::Result<()> {
-    let wall = effective_wall(t, d);
-    let least = 10000 * Record::THICKNESSES_LEAST;
-    match Outside::of(r.saturating_mul(2000000), wall, least) {
-        Outside::Below(ratio) => print!(rt; "r/t is {ratio}, below 20"),
-        Outside::Over(ratio) => print!(rt; "r/t is {ratio}, over 2500"),
+// WallRatio: r over a wall, which is in 200ths of a mm.
+fn say_wall_ratio(rt: &impl Print, w: Wall) -> io::Result<()> {
+    let radius = w.radius.saturating_mul(200 * Decimal::ONE);
+    let least = Decimal::ONE * Record::THICKNESSES_LEAST;
+    match Outside::of(radius, effective_wall(w), least) {
+        Outside::Below(ratio) => {
+            let least = Record::THICKNESSES_LEAST;
+            print!(rt; "r/t is {ratio}, below {least}")
+        }
+        Outside::Over(ratio) => {
+            let most = Record::THICKNESSES_MOST;
+            print!(rt; "r/t is {ratio}, over {most}")
+        }
     }?;
-    if shortfall_counted(t, d) == 0 {
+    if shortfall_counted(w) == 0 {
         return Ok(());
     }
     print!(rt; ", with t less d/2")
 }
 
-// 9
-fn say_length_ratio(rt: &impl Print, l: u64, r: u64) -> io::Result<()> {
-    match Outside::of(l.saturating_mul(10000), r, 500) {
-        Outside::Below(ratio) => print!(rt; "l/r is {ratio}, below 0.05, that is 1/20"),
-        Outside::Over(ratio) => print!(rt; "l/r is {ratio}, over 50"),
+// LengthRatio: l over r.
+fn say_length_ratio(rt: &impl Print, w: Wall) -> io::Result<()> {
+    let length = w.length.saturating_mul(Decimal::ONE);
+    let least = Decimal::ONE / Record::LENGTHS_MOST;
+    match Outside::of(length, w.radius, least) {
+        Outside::Below(ratio) => {
+            let most = Record::LENGTHS_MOST;
+            let hundredths = 100 / most;
+            print!(rt; "l/r is {ratio}, below 0.{hundredths:02}, that is 1/{most}")
+        }
+        Outside::Over(ratio) => {
+            let most = Record::RADII_MOST;
+            print!(rt; "l/r is {ratio}, over {most}")
+        }
     }
 }
 
-// 13
-fn say_wind(rt: &impl Print, r: Ring) -> io::Result<()> {
+// Wind: each of its fields that is outside its range.
+fn say_wind_fields(rt: &impl Print, r: Ring) -> io::Result<()> {
     print!(rt; "the wind is out of range")?;
     if let Ring::Wind(gust, vented) = r {
         say_range(rt, "w (N/m2)", gust, 0..=Record::GUST_MOST)?;
@@ -150,7 +168,7 @@ fn say_wind(rt: &impl Print, r: Ring) -> io::Result<()> {
     Ok(())
 }
 
-// 16
+// Pressure, of a record that has one.
 fn say_pressure(rt: &impl Print, inner: Option<u64>) -> io::Result<()> {
     match inner {
         None => Ok(()),
@@ -158,13 +176,16 @@ fn say_pressure(rt: &impl Print, inner: Option<u64>) -> io::Result<()> {
     }
 }
 
-// 6 and 13 of a load case: each of its own fields that is outside its range.
+// Range and Wind of a load case: each of its own fields that is outside its range. A load case breaks no other check.
 pub(crate) fn say_own(rt: &impl Print, r: Refusal, g: Group) -> io::Result<()> {
-    if r == Refusal::Wind {
-        return say_wind(rt, g.ring);
+    match r {
+        Refusal::Range => {
+            print!(rt; "out of range")?;
+            say_stresses(rt, g)
+        }
+        Refusal::Wind => say_wind_fields(rt, g.ring),
+        _ => Ok(()),
     }
-    print!(rt; "out of range")?;
-    say_stresses(rt, g)
 }
 
 // Why a record is refused.
@@ -174,8 +195,8 @@ pub(crate) fn say_check(rt: &impl Print, r: Refusal, c: Record) -> io::Result<()
     match r {
         Refusal::Range => say_ranges(rt, w, g),
         Refusal::Edges => say_edges(rt, w.edges),
-        Refusal::WallRatio => say_wall_ratio(rt, w.radius, w.thickness, w.shortfall),
-        Refusal::LengthRatio => say_length_ratio(rt, w.length, w.radius),
+        Refusal::WallRatio => say_wall_ratio(rt, w),
+        Refusal::LengthRatio => say_length_ratio(rt, w),
         Refusal::Imperfection => say_over(
             rt,
             "imperfection a (thousandths)",
@@ -188,7 +209,7 @@ pub(crate) fn say_check(rt: &impl Print, r: Refusal, c: Record) -> io::Result<()
             w.shortfall,
             Record::SHORTFALL_MOST,
         ),
-        Refusal::Wind => say_wind(rt, g.ring),
+        Refusal::Wind => say_wind_fields(rt, g.ring),
         Refusal::Pressure => say_pressure(rt, c.inner),
         _ => print!(rt; "it breaks a check that has no words"),
     }

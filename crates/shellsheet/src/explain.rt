@@ -1,19 +1,20 @@
 // --explain: the answers to a sheet in words. Each answer is that of `sheet::answer`, which the listing has too; the words decide nothing.
 use crate::checks::{say_check, say_own};
 use crate::form::say_form;
-use crate::say::Decimal;
-use answer::{Judgement, Refusal, Verdict};
+use crate::say::{Decimal, Words};
+use answer::{Judgement, Refusal};
 use cases::Cases;
 use line_bounds::Gain;
 use lines::Lines;
 use listing::Counts;
+use outcome::{BYTES_MOST, LINES_MOST, ROOM};
 use pressure::Order;
 use reading::read;
 use record::{Group, Record, Ring};
 use std::io;
 
 // A bound of 2 or more is no upper bound: a sum over 2 has it too.
-const SUM_MOST: u64 = 20000;
+const SUM_MOST: u64 = 2 * Decimal::ONE;
 
 // Below so many kN/m², 1 N/mm², the stresses of a shell look as if they were typed in N/mm².
 const STRESS_LOW: u64 = 1000;
@@ -35,14 +36,14 @@ fn say_sum(rt: &impl Print, j: Judgement) -> io::Result<()> {
 }
 
 // The whole ring stress that wind is turned into, with a remark on the unit of the gust pressure where it looks mistaken; nothing of a plain one.
-fn say_wind(rt: &impl Print, c: Record) -> io::Result<()> {
+fn say_wind_stress(rt: &impl Print, c: Record) -> io::Result<()> {
     let Ring::Wind(gust, _) = c.group.ring else {
         return Ok(());
     };
     let stress = c.ring_stress();
     print!(rt; "; the wind makes a ring stress of {stress} kN/m2")?;
     if (1..GUST_LOW).contains(&gust) {
-        print!(rt; "; w is below 100 N/m2, and 1 kN/m2 is 1000 N/m2: is it in N/m2?")?;
+        print!(rt; "; w is below {GUST_LOW} N/m2, and 1 kN/m2 is 1000 N/m2: is it in N/m2?")?;
     }
     Ok(())
 }
@@ -66,7 +67,7 @@ fn say_units(rt: &impl Print, g: Group) -> io::Result<()> {
 
 // The size of a gain to four digits, by its added part in 10⁻⁸: 1 and 1.2 times that. Divided first, so that nothing overflows.
 fn size(added: u64) -> Decimal {
-    Decimal(10000 + added / 25000 * 3 + added % 25000 * 3 / 25000)
+    Decimal(Decimal::ONE + added / 25000 * 3 + added % 25000 * 3 / 25000)
 }
 
 // What a pressure above 0 does.
@@ -98,18 +99,9 @@ fn say_inner(rt: &impl Print, c: Record) -> io::Result<()> {
 // The sum of a record that has a verdict, and the remarks on it.
 fn say_judged(rt: &impl Print, j: Judgement, c: Record) -> io::Result<()> {
     say_sum(rt, j)?;
-    say_wind(rt, c)?;
+    say_wind_stress(rt, c)?;
     say_inner(rt, c)?;
     say_units(rt, c.group)
-}
-
-// A verdict in words.
-fn words_of(v: Verdict) -> &'static str {
-    match v {
-        Verdict::Holds => "holds",
-        Verdict::Fails => "fails",
-        Verdict::Open => "is open",
-    }
 }
 
 // A load case of several, with its own verdict.
@@ -117,14 +109,14 @@ fn say_case(rt: &impl Print, k: u64, c: Record) -> io::Result<()> {
     let Ok(j) = c.answer(Order::PressureFirst) else {
         return Ok(());
     };
-    let verdict = words_of(j.verdict);
+    let verdict = Words(j.verdict);
     print!(rt; "\n  case {k} {verdict}")?;
     say_judged(rt, j, c)
 }
 
 // A verdict on load cases: of one with its sum and the remarks; of several the one that governs, and then each.
 fn say_verdict(rt: &impl Print, j: Judgement, c: &Cases) -> io::Result<()> {
-    let verdict = words_of(j.verdict);
+    let verdict = Words(j.verdict);
     print!(rt; " {verdict}")?;
     let groups = c.groups.as_slice();
     if let [group] = groups {
@@ -149,7 +141,7 @@ fn is_own(r: Refusal, g: Group) -> bool {
     }
 }
 
-// Each load case that breaks a check by itself, behind something or not.
+// Each load case that breaks a check by itself, behind something or not: whether a `; ` is due is known only on the way.
 fn say_each(rt: &impl Print, r: Refusal, behind: bool, c: &Cases) -> io::Result<()> {
     let mut behind = behind;
     for (group, k) in c.groups.as_slice().iter().zip(1u64..) {
@@ -182,7 +174,8 @@ fn say_refused(rt: &impl Print, r: Refusal, line: &[u8]) -> io::Result<()> {
     print!(rt; " is refused by {n}: ")?;
     if r == Refusal::LineBytes {
         let length = line.len();
-        return print!(rt; "it has {length} bytes, over 512");
+        let most = sheet::LINE_MOST;
+        return print!(rt; "it has {length} bytes, over {most}");
     }
     match read(line) {
         Some(cases) => say_broken(rt, r, &cases),
@@ -191,7 +184,7 @@ fn say_refused(rt: &impl Print, r: Refusal, line: &[u8]) -> io::Result<()> {
 }
 
 // A verdict on a line.
-fn say_holding(rt: &impl Print, j: Judgement, line: &[u8]) -> io::Result<()> {
+fn say_judged_line(rt: &impl Print, j: Judgement, line: &[u8]) -> io::Result<()> {
     match read(line) {
         Some(cases) => say_verdict(rt, j, &cases),
         None => Ok(()),
@@ -202,7 +195,7 @@ fn say_holding(rt: &impl Print, j: Judgement, line: &[u8]) -> io::Result<()> {
 fn say_line(rt: &impl Print, k: u64, line: &[u8]) -> io::Result<()> {
     print!(rt; "line {k}")?;
     match sheet::answer(line, Order::PressureFirst) {
-        Ok(j) => say_holding(rt, j, line),
+        Ok(j) => say_judged_line(rt, j, line),
         Err(r) => say_refused(rt, r, line),
     }?;
     println!(rt)
@@ -227,16 +220,16 @@ fn say_total(rt: &impl Print, c: Counts) -> io::Result<()> {
 // Why a sheet is turned back.
 fn say_batch(rt: &impl Print, r: Refusal) -> io::Result<()> {
     let n = u64::from(r);
-    let most = match r {
-        Refusal::SheetBytes => "65535 bytes",
-        _ => "1024 lines",
-    };
-    println!(rt; "the batch is refused by {n}: the sheet has over {most}")
+    print!(rt; "the batch is refused by {n}: the sheet has over ")?;
+    match r {
+        Refusal::SheetBytes => println!(rt; "{BYTES_MOST} bytes"),
+        _ => println!(rt; "{LINES_MOST} lines"),
+    }
 }
 
 // The answers to a sheet in words, and their total; or why the sheet is turned back.
 pub(crate) fn say_answers(rt: &impl Print, sheet: &[u8]) -> io::Result<()> {
-    let mut listing = [0u8; 24616];
+    let mut listing = [0u8; ROOM];
     match sheet::run(sheet, &mut listing) {
         Ok(listed) => {
             say_lines(rt, sheet)?;

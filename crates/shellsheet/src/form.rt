@@ -1,6 +1,6 @@
-// Refusal 5 in words: the byte at which a line stops being of the form, and what was expected there.
+// A refused form in words: the byte at which a line stops being of the form, and what was expected there.
 use crate::say::Byte;
-use crate::scan::{Number, Stop, Want, scan_line};
+use crate::scan::{Field, Stop, Want, scan_line};
 use std::io;
 
 // The number of the byte of a line at which `rest` begins, counted from 1.
@@ -12,7 +12,7 @@ fn place(line: &[u8], rest: &[u8]) -> usize {
 fn hint(b: u8, want: Want) -> &'static str {
     match (b, want) {
         // a number of wind or of pressure has no sign
-        (b'-', Want::Number(Number::Gust | Number::Vented | Number::Pressure)) => "",
+        (b'-', Want::Number(Field::Gust | Field::Vented | Field::Pressure)) => "",
         (b'-', _) => "; compression is positive, and tension is not covered",
         (b'.' | b',', _) => "; numbers are whole",
         _ => "",
@@ -34,7 +34,7 @@ fn say_stop(rt: &impl Print, stop: Stop<'_>) -> io::Result<()> {
     }
 }
 
-// Why a line is refused by 5.
+// Why a line is not of the form.
 pub(crate) fn say_form(rt: &impl Print, line: &[u8]) -> io::Result<()> {
     if line.is_empty() {
         return print!(rt; "the line is empty");

@@ -1,5 +1,10 @@
 // Lists sheets, says their answers in words, or compares two readings of a test: shellsheet [--explain | --readings] [--] [FILE..]. Without a file the sheet is standard input.
+// Memory is taken only to say an error: a sheet, what is written of it and an argument go into arrays (SCOPE 17.5 for a sheet).
 #![tactic(auto)]
+
+ghost use Rattle.std.specs.Prelude.{List, ℕ, Result, IfOk, ◌≤◌, length};
+ghost use Rattle.std.specs.Borrow.{MutBor};
+ghost use Rattle.answer.specs.declared.Refusal.{Refusal};
 
 mod checks;
 mod explain;
@@ -13,7 +18,8 @@ mod stream;
 use answer::Refusal;
 use explain::say_answers;
 use help::{say_help, say_version};
-use options::{Options, Task, argument, argument_count};
+use options::{NAME_ROOM, Named, Options, Say, Task, argument, argument_count};
+use outcome::ROOM;
 use std::io::{Error, ErrorKind, Read};
 use std::{fs, io};
 use stream::{fail, read_sheet, write_error};
@@ -24,42 +30,29 @@ fn say_refusal(rt: &impl Print, r: Refusal) -> io::Result<()> {
     println!(rt; "(batch refused {n})")
 }
 
-// Writes the listing of a sheet.
-fn say_listing(rt: &impl Print, sheet: &[u8]) -> io::Result<()> {
-    let mut listing = [0u8; 24616];
-    match sheet::run(sheet, &mut listing) {
-        Ok(listed) => rt.write_all(&listing[..listed.length]),
+// Writes what a run puts into its buffer, or why it turns the sheet back. `say_answers` has a buffer and a run too, but it wants the counts, and no byte of what is put.
+fn say_run<F: FnOnce(&mut [u8]) -> Result<usize, Refusal>>(
+    rt: &impl Print,
+    run: F,
+) -> io::Result<()>
+    requires callable { F.IsAlwaysCallable run }
+    requires bound { (x : MutBor (List ℕ)) (r : Result ℕ Refusal) (y : MutBor (List ℕ)) → F.post run x r y → IfOk r (λ n. n ≤ length y.now) }
+{
+    let mut out = [0u8; ROOM];
+    match run(&mut out) {
+        Ok(length) => rt.write_all(&out[..length]),
         Err(r) => say_refusal(rt, r),
     }
+}
+
+// Writes the listing of a sheet.
+fn say_listing(rt: &impl Print, sheet: &[u8]) -> io::Result<()> {
+    say_run(rt, |out| Ok(sheet::run(sheet, out)?.length))
 }
 
 // Writes a row for each line whose verdicts by the two readings of the pressure's test differ.
 fn say_readings(rt: &impl Print, sheet: &[u8]) -> io::Result<()> {
-    let mut rows = [0u8; 24616];
-    match readings::run(sheet, &mut rows) {
-        Ok(length) => rt.write_all(&rows[..length]),
-        Err(r) => say_refusal(rt, r),
-    }
-}
-
-// Writes the line that stands above a listing, if there are several.
-fn say_heading(rt: &impl Print, name: &[u8], o: Options) -> io::Result<()> {
-    if o.sheets < 2 {
-        return Ok(());
-    }
-    rt.write_all(b"==> ")?;
-    rt.write_all(name)?;
-    rt.write_all(b" <==\n")
-}
-
-// Writes what there is to say of a sheet.
-fn say_sheet(rt: &impl Print, name: &[u8], sheet: &[u8], o: Options) -> io::Result<()> {
-    say_heading(rt, name, o)?;
-    match o.task {
-        Task::Explain => say_answers(rt, sheet),
-        Task::Readings => say_readings(rt, sheet),
-        _ => say_listing(rt, sheet),
-    }
+    say_run(rt, |out| readings::run(sheet, out))
 }
 
 // Says on standard error why the sheet of this name cannot be read.
@@ -68,24 +61,8 @@ fn complain(rt: &HostRuntime, name: &[u8], why: Error) {
     fail(rt, name, why);
 }
 
-// Lists the sheet that `from` reads. This and what follows fail where not all is written.
-fn list<R: Read>(rt: &HostRuntime, from: &mut R, name: &[u8], o: Options) -> io::Result<()> {
-    let mut sheet = [0u8; 65536];
-    match read_sheet(from, &mut sheet) {
-        Ok(n) => say_sheet(rt, name, &sheet[..n], o),
-        Err(why) => {
-            complain(rt, name, why);
-            Ok(())
-        }
-    }
-}
-
-// Lists standard input.
-fn list_input(rt: &HostRuntime, o: Options) -> io::Result<()> {
-    list(rt, &mut rt.stdin(), b"standard input", o)
-}
-
-// Opens the sheet of this name, which std takes only where it is UTF-8.
+// Opens the sheet of this name, which std takes only where it is UTF-8. This and `fail` stand in trials too: a library for both would open files,
+// write to standard error and take memory, and no library here does any of the three.
 fn open(rt: &HostRuntime, name: &[u8]) -> io::Result<fs::File> {
     match str::from_utf8(name) {
         Ok(path) => fs::open(rt, path),
@@ -93,55 +70,106 @@ fn open(rt: &HostRuntime, name: &[u8]) -> io::Result<fs::File> {
     }
 }
 
-// Lists the sheet of this name.
-fn list_named(rt: &HostRuntime, name: &[u8], o: Options) -> io::Result<()> {
-    if name == b"-".as_slice() {
-        return list_input(rt, o);
+// What lists sheets: which they are, and what is written of each. Its functions fail where not all is written.
+#[derive(Clone, Copy)]
+struct Lister<'a> {
+    rt: &'a HostRuntime,
+    named: Named,
+    say: Say,
+}
+
+impl<'a> Lister<'a> {
+    // Writes the line that stands above a listing, if there are several.
+    fn say_heading(self, name: &[u8]) -> io::Result<()> {
+        if self.named.sheets < 2 {
+            return Ok(());
+        }
+        self.rt.write_all(b"==> ")?;
+        self.rt.write_all(name)?;
+        self.rt.write_all(b" <==\n")
     }
-    match open(rt, name) {
-        Ok(mut file) => list(rt, &mut file, name, o),
-        Err(why) => {
-            complain(rt, name, why);
-            Ok(())
+
+    // Writes what there is to say of a sheet.
+    fn say_sheet(self, name: &[u8], sheet: &[u8]) -> io::Result<()> {
+        self.say_heading(name)?;
+        match self.say {
+            Say::Answers => say_answers(self.rt, sheet),
+            Say::Readings => say_readings(self.rt, sheet),
+            Say::Listing => say_listing(self.rt, sheet),
+        }
+    }
+
+    // Lists the sheet that `from` reads.
+    fn list<R: Read>(self, from: &mut R, name: &[u8]) -> io::Result<()> {
+        // SCOPE 17.5: one byte more than `outcome::BYTES_MOST`; if it gets full, the sheet is too long
+        let mut sheet = [0u8; 65536];
+        match read_sheet(from, &mut sheet) {
+            Ok(n) => self.say_sheet(name, &sheet[..n]),
+            Err(why) => {
+                complain(self.rt, name, why);
+                Ok(())
+            }
+        }
+    }
+
+    // Lists standard input.
+    fn list_input(self) -> io::Result<()> {
+        self.list(&mut self.rt.stdin(), b"standard input")
+    }
+
+    // Lists the sheet of this name.
+    fn list_named(self, name: &[u8]) -> io::Result<()> {
+        if name == b"-".as_slice() {
+            return self.list_input();
+        }
+        match open(self.rt, name) {
+            Ok(mut file) => self.list(&mut file, name),
+            Err(why) => {
+                complain(self.rt, name, why);
+                Ok(())
+            }
+        }
+    }
+
+    // Lists the sheet that argument i names, if it names one.
+    fn list_argument(self, i: usize) -> io::Result<()> {
+        let mut buf = [0u8; NAME_ROOM];
+        let name = argument(self.rt, i, &mut buf);
+        if self.named.has(i, name) {
+            self.list_named(name)?;
+        }
+        Ok(())
+    }
+
+    // Lists the sheets that the arguments name, up to the first write that fails; without one standard input.
+    fn list_all(self) -> io::Result<()> {
+        if self.named.sheets == 0 {
+            return self.list_input();
+        }
+        for i in 1..argument_count(self.rt) {
+            self.list_argument(i)?;
+        }
+        Ok(())
+    }
+}
+
+// Does what the arguments ask for.
+fn run(rt: &HostRuntime, options: Options) -> io::Result<()> {
+    match options.task {
+        Task::Help => say_help(rt),
+        Task::Version => say_version(rt),
+        Task::Sheets(say) => {
+            let named = options.named;
+            Lister { rt, named, say }.list_all()
         }
     }
 }
 
-// Lists the sheet that argument i names, if it names one.
-fn list_argument(rt: &HostRuntime, i: usize, o: Options) -> io::Result<()> {
-    let mut buf = [0u8; 4096];
-    let name = argument(rt, i, &mut buf);
-    if o.names_sheet(i, name) {
-        list_named(rt, name, o)?;
-    }
-    Ok(())
-}
-
-// Lists the sheets that the arguments name, up to the first write that fails; without one standard input.
-fn list_all(rt: &HostRuntime, o: Options) -> io::Result<()> {
-    if o.sheets == 0 {
-        return list_input(rt, o);
-    }
-    for i in 1..argument_count(rt) {
-        list_argument(rt, i, o)?;
-    }
-    Ok(())
-}
-
-// Does what the arguments ask for.
-fn run(rt: &HostRuntime, o: Options) -> io::Result<()> {
-    match o.task {
-        Task::Help => say_help(rt),
-        Task::Version => say_version(rt),
-        _ => list_all(rt, o),
-    }
-}
-
 fn main(rt: HostRuntime) {
-    let Some(o) = Options::read(&rt) else {
+    let Some(options) = Options::read(&rt) else {
         return;
     };
-    if let Err(why) = run(&rt, o) {
+    if let Err(why) = run(&rt, options) {
         let why = match why.kind() {
             // in the words that stand for it, and not in std's for a buffer
             ErrorKind::WriteZero => Error::from(ErrorKind::WriteZero),

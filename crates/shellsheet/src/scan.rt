@@ -1,10 +1,12 @@
-// Where a line stops being of the form. It decides nothing: a line that it is asked about has been refused by 5.
+// Where a line stops being of the form. It decides nothing: a line that it is asked about has been refused for its form.
+// The grammar stands here once more: `reading` does not say where a line stops being of it, and its theorems are of what it does say.
 use crate::say::Byte;
+use cases::Groups;
 use std::fmt;
 
-// A number of the form.
+// A field of a line: a number of the form.
 #[derive(Clone, Copy)]
-pub(crate) enum Number {
+pub(crate) enum Field {
     Radius,
     Thickness,
     Length,
@@ -22,23 +24,23 @@ pub(crate) enum Number {
 }
 
 // The name that the form has for it.
-impl fmt::Display for Number {
+impl fmt::Display for Field {
     fn fmt<W: fmt::Write>(&self, f: &mut fmt::Formatter<W>) -> fmt::Result {
         let name = match self {
-            Number::Radius => "r",
-            Number::Thickness => "t",
-            Number::Length => "l",
-            Number::Modulus => "E",
-            Number::Yield => "fy",
-            Number::Edges => "edges",
-            Number::Imperfection => "a",
-            Number::Shortfall => "d",
-            Number::Axial => "sx",
-            Number::Ring => "sphi",
-            Number::Shear => "tau",
-            Number::Gust => "w",
-            Number::Vented => "v",
-            Number::Pressure => "p",
+            Field::Radius => "r",
+            Field::Thickness => "t",
+            Field::Length => "l",
+            Field::Modulus => "E",
+            Field::Yield => "fy",
+            Field::Edges => "edges",
+            Field::Imperfection => "a",
+            Field::Shortfall => "d",
+            Field::Axial => "sx",
+            Field::Ring => "sphi",
+            Field::Shear => "tau",
+            Field::Gust => "w",
+            Field::Vented => "v",
+            Field::Pressure => "p",
         };
         write!(f, "{name}")
     }
@@ -48,11 +50,11 @@ impl fmt::Display for Number {
 #[derive(Clone, Copy)]
 pub(crate) enum Want {
     Byte(u8),
-    Number(Number),
+    Number(Field),
     // digits stand there, and begin with a zero that leads
-    NoLeadingZero(Number),
+    NoLeadingZero(Field),
     // more digits stand there
-    SevenDigits(Number),
+    SevenDigits(Field),
 }
 
 impl fmt::Display for Want {
@@ -99,7 +101,7 @@ fn after_text<'a>(line: &'a [u8], text: &[u8]) -> Rest<'a> {
 }
 
 // Behind a number: 1 to 7 digits without a leading zero.
-fn after_number<'a>(line: &'a [u8], n: Number) -> Rest<'a> {
+fn after_number<'a>(line: &'a [u8], n: Field) -> Rest<'a> {
     let end = line.iter().position(|b| !b.is_ascii_digit());
     let end = end.unwrap_or(line.len());
     let want = match &line[..end] {
@@ -112,14 +114,14 @@ fn after_number<'a>(line: &'a [u8], n: Number) -> Rest<'a> {
 }
 
 // Behind a space and a number.
-fn after_spaced<'a>(line: &'a [u8], n: Number) -> Rest<'a> {
+fn after_spaced<'a>(line: &'a [u8], n: Field) -> Rest<'a> {
     after_number(after_text(line, b" ")?, n)
 }
 
 // Behind the shortfall, which may be left out.
 fn after_shortfall<'a>(line: &'a [u8]) -> Rest<'a> {
     match line {
-        [_, b'0'..=b'9', ..] => after_spaced(line, Number::Shortfall),
+        [_, b'0'..=b'9', ..] => after_spaced(line, Field::Shortfall),
         _ => Ok(line),
     }
 }
@@ -127,27 +129,27 @@ fn after_shortfall<'a>(line: &'a [u8]) -> Rest<'a> {
 // Behind σφ, or wind in its place.
 fn after_ring<'a>(line: &'a [u8]) -> Rest<'a> {
     if !line.starts_with(b"(") {
-        return after_number(line, Number::Ring);
+        return after_number(line, Field::Ring);
     }
     let rest = after_text(line, b"(wind")?;
-    let rest = after_spaced(rest, Number::Gust)?;
-    let rest = after_spaced(rest, Number::Vented)?;
+    let rest = after_spaced(rest, Field::Gust)?;
+    let rest = after_spaced(rest, Field::Vented)?;
     after_text(rest, b")")
 }
 
 // Behind a group, which begins with its space.
 fn after_group<'a>(line: &'a [u8]) -> Rest<'a> {
     let rest = after_text(line, b" (stress")?;
-    let rest = after_spaced(rest, Number::Axial)?;
+    let rest = after_spaced(rest, Field::Axial)?;
     let rest = after_ring(after_text(rest, b" ")?)?;
-    let rest = after_spaced(rest, Number::Shear)?;
+    let rest = after_spaced(rest, Field::Shear)?;
     after_text(rest, b")")
 }
 
 // Behind one to eight groups.
 fn after_groups<'a>(line: &'a [u8]) -> Rest<'a> {
     let mut rest = after_group(line)?;
-    for _ in 1..8 {
+    for _ in 1..Groups::MOST {
         if rest.starts_with(b" (s") {
             rest = after_group(rest)?;
         }
@@ -161,7 +163,7 @@ fn after_inner<'a>(line: &'a [u8]) -> Rest<'a> {
         return Ok(line);
     }
     let rest = after_text(line, b" (inner")?;
-    let rest = after_spaced(rest, Number::Pressure)?;
+    let rest = after_spaced(rest, Field::Pressure)?;
     after_text(rest, b")")
 }
 
@@ -169,13 +171,13 @@ fn after_inner<'a>(line: &'a [u8]) -> Rest<'a> {
 pub(crate) fn scan_line<'a>(line: &'a [u8]) -> Rest<'a> {
     let mut rest = after_text(line, b"(shell")?;
     for n in [
-        Number::Radius,
-        Number::Thickness,
-        Number::Length,
-        Number::Modulus,
-        Number::Yield,
-        Number::Edges,
-        Number::Imperfection,
+        Field::Radius,
+        Field::Thickness,
+        Field::Length,
+        Field::Modulus,
+        Field::Yield,
+        Field::Edges,
+        Field::Imperfection,
     ] {
         rest = after_spaced(rest, n)?;
     }

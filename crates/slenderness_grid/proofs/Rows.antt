@@ -1,5 +1,6 @@
--- The two numbers of each root: those of the number's tests, as bounds have them and as factors. Assumes nothing.
-use mathlib.Core.Path.{◌≡◌, refl, ap₂, ◌∙◌}
+-- The two numbers of each root: those of the number's tests, as bounds have them and as factors. The answers of the four
+-- searches by a root have one form over these rows; a lemma for them would take the row, the right side and the degree, and be as long. Assumes nothing.
+use mathlib.Core.Path.{◌≡◌, refl, ap, ap₂, ◌∙◌}
 use mathlib.Core.List.{[], ◌∷◌}
 use Prim.Native.Nat.{ℕ, ◌+◌, ◌*◌, ◌^◌, ◌<◌}
 use native.Mathlib.Nat.{mul_comm}
@@ -8,7 +9,7 @@ use Rattle.factors.specs.Product.{prod}
 use Rattle.algebra.proofs.Ring.{ring, quoted}
 use Rattle.wide.specs.Value.{base}
 use Rattle.cylinder.specs.declared.Cylinder.{Cylinder}
-use Rattle.cylinder.specs.Cut.{root_of}
+use Rattle.cylinder.specs.Cut.{Cut, root_of}
 use Rattle.cylinder.specs.WholeIdeal.{ring_edges, axial_short_cut, axial_floor, ring_short_cut, ring_long_cut, shear_long_cut}
 use Rattle.roots.specs.Largest.{largest}
 use Rattle.ideal.proofs.Rows.{axial_floor_right}
@@ -21,57 +22,45 @@ use Rattle.slenderness_grid.proofs.Searches.{by_root}
 pub axial_short_x_lem : (E w r l : ℕ) → prod (48400 ∷ E ∷ w ∷ l ∷ l ∷ []) + prod (363 ∷ E ∷ w ∷ w ∷ r ∷ []) ≡ 121 * E * w * (400 * l ^ 2 + 3 * r * w)
 axial_short_x_lem E w r l = ring (E ∷ w ∷ r ∷ l ∷ []) (search quoted depth 60 fits 100000) refl
 
-pub axial_short_y_lem : (r l f q : ℕ) → prod (16000000 ∷ r ∷ l ∷ l ∷ f ∷ q ∷ q ∷ []) ≡ q ^ 2 * (16000000 * r * l ^ 2 * f)
-axial_short_y_lem r l f q = ring (r ∷ l ∷ f ∷ q ∷ []) (search quoted depth 60 fits 100000) refl
-
 axial_floor_x : (E w : ℕ) → prod (726 ∷ E ∷ w ∷ []) ≡ 6 * (121 * E * w)
 axial_floor_x E w = ring (E ∷ w ∷ []) (search quoted depth 60 fits 100000) refl
 
 pub ring_short_x_lem : (c E w : ℕ) → prod (529 ∷ c ∷ c ∷ E ∷ E ∷ w ∷ w ∷ w ∷ []) ≡ (23 * c * E * w) ^ 2 * w
 ring_short_x_lem c E w = ring (c ∷ E ∷ w ∷ []) (search quoted depth 60 fits 100000) refl
 
-pub ring_short_y_lem : (r l f q : ℕ) → prod (80000000000 ∷ r ∷ l ∷ l ∷ f ∷ f ∷ q ∷ q ∷ q ∷ q ∷ []) ≡ q ^ 4 * ((20000 * l * f) ^ 2 * (200 * r))
-ring_short_y_lem r l f q = ring (r ∷ l ∷ f ∷ q ∷ []) (search quoted depth 60 fits 100000) refl
-
 pub ring_long_x_lem : (E w l c r : ℕ) → prod (44 ∷ E ∷ w ∷ w ∷ l ∷ l ∷ l ∷ l ∷ []) + prod (50750 ∷ E ∷ c ∷ c ∷ c ∷ c ∷ r ∷ r ∷ r ∷ r ∷ r ∷ r ∷ []) ≡ E * (44 * w ^ 2 * l ^ 4 + 50750 * c ^ 4 * r ^ 6)
 ring_long_x_lem E w l c r = ring (E ∷ w ∷ l ∷ c ∷ r ∷ []) (search quoted depth 60 fits 100000) refl
-
-pub ring_long_y_lem : (r l f q : ℕ) → prod (6400000 ∷ r ∷ r ∷ l ∷ l ∷ l ∷ l ∷ f ∷ q ∷ q ∷ []) ≡ q ^ 2 * (6400000 * r ^ 2 * l ^ 4 * f)
-ring_long_y_lem r l f q = ring (r ∷ l ∷ f ∷ q ∷ []) (search quoted depth 60 fits 100000) refl
 
 pub shear_long_x_lem : (E w : ℕ) → prod (3 ∷ E ∷ E ∷ w ∷ w ∷ w ∷ []) ≡ 3 * E ^ 2 * w ^ 3
 shear_long_x_lem E w = ring (E ∷ w ∷ []) (search quoted depth 60 fits 100000) refl
 
-pub shear_long_y_lem : (r f q : ℕ) → prod (128000000 ∷ r ∷ r ∷ r ∷ f ∷ f ∷ q ∷ q ∷ q ∷ q ∷ []) ≡ q ^ 4 * (128000000 * r ^ 3 * f ^ 2)
-shear_long_y_lem r f q = ring (r ∷ f ∷ q ∷ []) (search quoted depth 60 fits 100000) refl
-
 -- ---- the ring stress's test, the point taken out of its squares
 
-ring_point : (k p w : ℕ) → (k * p ^ 2) ^ 2 * w ≡ p ^ 4 * (k ^ 2 * w)
+pub ring_point : (k p w : ℕ) → (k * p ^ 2) ^ 2 * w ≡ p ^ 4 * (k ^ 2 * w)
 ring_point k p w = ring (k ∷ p ∷ w ∷ []) (search quoted depth 60 fits 100000) refl
 
 -- ---- the rows
 
--- the same factors in another order
-pub of_equal : (e cap : ℕ) {k X Y X' Y' : ℕ} → X ≡ X' → Y ≡ Y' → k ≡ largest e cap X Y → k ≡ largest e cap X' Y'
-of_equal e cap x y h = rw (x, y) at h
-
 module _ (s : Cylinder) (q cap : ℕ) (small : cap < base) where
-  pub axial_short_row : {k x y : ℕ} → k ≡ largest 2 cap x y → x ≡ axial_short_x s → y ≡ q ^ 2 * axial_short_y s → Highest (axial_short_cut s) q cap k
-  axial_short_row is x y = by_root (axial_short_cut s) q cap 2 _ _ (lit< tt) small (λ k. refl) is x (y ∙ mul_comm (q ^ 2) (axial_short_y s))
+  -- k/q is reached exactly if k ^ e * X is at most Y * q ^ e
+  at_points : (c : Cut) (e X Y : ℕ) {k : ℕ} → 0 < e → ((k : ℕ) → c.reaches k q ≡ leb (k ^ e * X) (Y * q ^ e)) → k ≡ largest e cap X (q ^ e * Y) → Highest c q cap k
+  at_points c e X Y pos same = by_root c q cap e X (q ^ e * Y) pos small (λ k. same k ∙ ap (leb (k ^ e * X)) (mul_comm Y (q ^ e)))
 
-  pub axial_floor_row : {k x y : ℕ} → k ≡ largest 2 cap x y → x ≡ prod (726 ∷ s.modulus ∷ s.wall ∷ []) → y ≡ prod (400000 ∷ s.radius ∷ s.yield_stress ∷ q ∷ q ∷ [])
-      → Highest (root_of 2 (axial_floor s)) q cap k
-  axial_floor_row is x y =
-      by_root (root_of 2 (axial_floor s)) q cap 2 _ _ (lit< tt) small (λ k. refl) is (x ∙ axial_floor_x s.modulus s.wall) (y ∙ axial_floor_right s.radius s.yield_stress q)
+  pub axial_short_row : {k : ℕ} → k ≡ largest 2 cap (axial_short_x s) (q ^ 2 * axial_short_y s) → Highest (axial_short_cut s) q cap k
+  axial_short_row = at_points (axial_short_cut s) 2 _ _ (lit< tt) (λ k. refl)
 
-  pub ring_short_row : {k x y : ℕ} → k ≡ largest 4 cap x y → x ≡ ring_short_x s → y ≡ q ^ 4 * ring_short_y s → Highest (ring_short_cut s) q cap k
-  ring_short_row is x y =
+  pub axial_floor_row : {k : ℕ} → k ≡ largest 2 cap (prod (726 ∷ s.modulus ∷ s.wall ∷ [])) (prod (400000 ∷ s.radius ∷ s.yield_stress ∷ q ∷ q ∷ [])) → Highest (root_of 2 (axial_floor s)) q cap k
+  axial_floor_row is =
+      by_root (root_of 2 (axial_floor s)) q cap 2 _ _ (lit< tt) small (λ k. refl)
+      (is ∙ ap₂ (largest 2 cap) (axial_floor_x s.modulus s.wall) (axial_floor_right s.radius s.yield_stress q))
+
+  pub ring_short_row : {k : ℕ} → k ≡ largest 4 cap (ring_short_x s) (q ^ 4 * ring_short_y s) → Highest (ring_short_cut s) q cap k
+  ring_short_row =
       by_root (ring_short_cut s) q cap 4 (ring_short_x s) (q ^ 4 * ring_short_y s) (lit< tt) small
-      (λ k. ap₂ leb (ring_point (23 * ring_edges s.edges * s.modulus * s.wall) k s.wall) (ring_point (20000 * s.length * s.yield_stress) q (200 * s.radius))) is x y
+      (λ k. ap₂ leb (ring_point (23 * ring_edges s.edges * s.modulus * s.wall) k s.wall) (ring_point (20000 * s.length * s.yield_stress) q (200 * s.radius)))
 
-  pub ring_long_row : {k x y : ℕ} → k ≡ largest 2 cap x y → x ≡ ring_long_x s → y ≡ q ^ 2 * ring_long_y s → Highest (ring_long_cut s) q cap k
-  ring_long_row is x y = by_root (ring_long_cut s) q cap 2 _ _ (lit< tt) small (λ k. refl) is x (y ∙ mul_comm (q ^ 2) (ring_long_y s))
+  pub ring_long_row : {k : ℕ} → k ≡ largest 2 cap (ring_long_x s) (q ^ 2 * ring_long_y s) → Highest (ring_long_cut s) q cap k
+  ring_long_row = at_points (ring_long_cut s) 2 _ _ (lit< tt) (λ k. refl)
 
-  pub shear_long_row : {k x y : ℕ} → k ≡ largest 4 cap x y → x ≡ shear_long_x s → y ≡ q ^ 4 * shear_long_y s → Highest (shear_long_cut s) q cap k
-  shear_long_row is x y = by_root (shear_long_cut s) q cap 4 _ _ (lit< tt) small (λ k. refl) is x (y ∙ mul_comm (q ^ 4) (shear_long_y s))
+  pub shear_long_row : {k : ℕ} → k ≡ largest 4 cap (shear_long_x s) (q ^ 4 * shear_long_y s) → Highest (shear_long_cut s) q cap k
+  shear_long_row = at_points (shear_long_cut s) 4 _ _ (lit< tt) (λ k. refl)

@@ -24,9 +24,8 @@ use Rattle.slenderness_grid.specs.Highest.{Highest}
 -- ---- by a root
 
 -- c reaches k/q exactly if k ^ e * X is at most Y
-pub by_root : (c : Cut) (q cap e X Y : ℕ) {r x y : ℕ} → 0 < e → cap < base → ((k : ℕ) → c.reaches k q ≡ leb (k ^ e * X) Y) → r ≡ largest e cap x y → x ≡ X → y ≡ Y →
-    Highest c q cap r
-by_root c q cap e X Y {r} {x} {y} pos small same is ex ey =
+pub by_root : (c : Cut) (q cap e X Y : ℕ) {r : ℕ} → 0 < e → cap < base → ((k : ℕ) → c.reaches k q ≡ leb (k ^ e * X) Y) → r ≡ largest e cap X Y → Highest c q cap r
+by_root c q cap e X Y {r} pos small same is =
     record {
       most = leb-true r cap pass.0;
       reached = same r ∙ pass.1;
@@ -34,7 +33,7 @@ by_root c q cap e X Y {r} {x} {y} pos small same is ex ey =
     }
   where
     edge : Edge (test e cap X Y) r
-    edge = rw (is, ex, ey) (largest_edge e cap X Y pos small)
+    edge = rw is (largest_edge e cap X Y pos small)
 
     pass : (leb r cap ≡ true) × (leb (r ^ e * X) Y ≡ true)
     pass = and_true (leb r cap) (leb (r ^ e * X) Y) edge.passes

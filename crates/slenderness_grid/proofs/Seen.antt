@@ -1,11 +1,12 @@
 -- What bounds of the two branches' terms say of S against p/q. Assumes nothing.
-use mathlib.Core.Path.{◌≡◌, refl, ◌∙◌}
+use mathlib.Core.Path.{◌≡◌, refl, sym, ap, ◌∙◌}
 use Rattle.std.specs.Prelude.{MatchOption}
 use Rattle.std.specs.declared.option.Option.{Option}
 use Rattle.std.specs.declared.option.Option.TheVariants.{None, Some}
 use mathlib.Core.Bool.{Bool, true, false}
 use mathlib.Core.List.{[], ◌∷◌}
-use Prim.Native.Nat.{ℕ, ◌+◌, ◌-◌, ◌*◌, ◌^◌, ◌<◌}
+use Prim.Native.Nat.{ℕ, ◌-◌, ◌*◌, ◌^◌, ◌<◌}
+use native.Mathlib.Nat.{mul_comm}
 use native.Mathlib.Omega.{arith}
 use borrow.Author.Tests.{leb-false}
 use lib.Dec.{leb}
@@ -17,10 +18,9 @@ use Rattle.std.specs.Ordering.{is_le, nat_cmp}
 use Rattle.std.specs.Cmp.{ranked}
 use Rattle.algebra.proofs.Powers.{pow_two}
 use Rattle.root_order.specs.Decision.{Decides}
-use Rattle.factors.specs.Product.{prod}
 use Rattle.cylinder.specs.declared.Cylinder.{Cylinder}
 use Rattle.cylinder.specs.Cut.{root_of}
-use Rattle.cylinder.specs.WholeIdeal.{eta, axial_bent, shear_short_cut}
+use Rattle.cylinder.specs.WholeIdeal.{axial_bent, shear_short_cut}
 use Rattle.slenderness_terms.specs.TermsFor.{bent_c, bent_d, bent_e, shear_c, shear_d, shear_e}
 use Rattle.axial_long.proofs.Row.{axial_bent_row, axial_bent_low}
 use Rattle.shear_short.proofs.Row.{shear_short_row}
@@ -30,23 +30,8 @@ use Rattle.shear_short.proofs.Row.{shear_short_row}
 pub square_times : (n x : ℕ) → n * n * x ≡ n ^ 2 * x
 square_times n x = ring (n ∷ x ∷ []) (search quoted depth 60 fits 100000) refl
 
-shear_x : (r l f q : ℕ) → q ^ 4 * (25600000000 * l ^ 4 * r * f ^ 2) ≡ prod (25600000000 ∷ r ∷ l ∷ l ∷ l ∷ l ∷ f ∷ f ∷ q ∷ q ∷ q ∷ q ∷ [])
-shear_x r l f q = ring (r ∷ l ∷ f ∷ q ∷ []) (search quoted depth 60 fits 100000) refl
-
-shear_y : (E w r p : ℕ) → 1134 * E ^ 2 * w ^ 4 * r * (p * p * (p * p)) ≡ prod (1134 ∷ E ∷ E ∷ w ∷ w ∷ w ∷ w ∷ r ∷ p ∷ p ∷ p ∷ p ∷ [])
-shear_y E w r p = ring (E ∷ w ∷ r ∷ p ∷ []) (search quoted depth 60 fits 100000) refl
-
-shear_z : (E w l p : ℕ) → 1080000 * E ^ 2 * l ^ 3 * w ^ 2 * (p * p * (p * p)) ≡ prod (1080000 ∷ E ∷ E ∷ w ∷ w ∷ l ∷ l ∷ l ∷ p ∷ p ∷ p ∷ p ∷ [])
-shear_z E w l p = ring (E ∷ w ∷ l ∷ p ∷ []) (search quoted depth 60 fits 100000) refl
-
-bent_x : (E w r h p : ℕ) → h * r * (121 * E * w) * (p * p) ≡ prod (121 ∷ E ∷ w ∷ p ∷ p ∷ r ∷ h ∷ [])
-bent_x E w r h p = ring (E ∷ w ∷ r ∷ h ∷ p ∷ []) (search quoted depth 60 fits 100000) refl
-
-bent_y : (n r f q : ℕ) → q ^ 2 * (400000 * n * r ^ 2 * f) ≡ prod (400000 ∷ n ∷ r ∷ r ∷ f ∷ q ∷ q ∷ [])
-bent_y n r f q = ring (n ∷ r ∷ f ∷ q ∷ []) (search quoted depth 60 fits 100000) refl
-
-bent_z : (E w l p : ℕ) → 4 * l * (121 * E * w) * (p * p) ≡ prod (121 ∷ E ∷ w ∷ p ∷ p ∷ 4 ∷ l ∷ [])
-bent_z E w l p = ring (E ∷ w ∷ l ∷ p ∷ []) (search quoted depth 60 fits 100000) refl
+fourth : (a p : ℕ) → a * (p * p * (p * p)) ≡ a * p ^ 4
+fourth a p = ring (a ∷ p ∷ []) (search quoted depth 60 fits 100000) refl
 
 -- by what bounds tell, or else exactly
 pub seen_or : (A B : ℕ) {c : Bool} (o : Option Ordering) (r : Ordering) {post : Type 0} → Lies o A B → MatchOption o post (λ k. r ≡ k) → (post → is_le r ≡ c) → (r ≡ nat_cmp A B → is_le r ≡ c) → is_le r ≡ c
@@ -70,9 +55,7 @@ module _ (s : Cylinder) (p q : ℕ) where
   shear_rest = q ^ 4 * shear_d s - shear_c s * (p * p * (p * p))
 
   pub shear_seen : {o : Ordering} → o ≡ nat_cmp (shear_up ^ 2 * s.wall) (shear_rest ^ 2 * (200 * s.radius)) → Decides o (shear_short_cut s) p q
-  shear_seen =
-      shear_short_row s p q (shear_x s.radius s.length s.yield_stress q) (shear_y s.modulus s.wall s.radius p) refl
-      (shear_z s.modulus s.wall s.length p)
+  shear_seen = shear_short_row s p q (mul_comm (q ^ 4) (shear_d s)) (fourth (shear_c s) p) refl (fourth (shear_e s) p)
 
 -- ---- axial stress, long
 
@@ -87,10 +70,11 @@ module _ (s : Cylinder) (p q : ℕ) where
   abbrev pub bent_root : ℕ
   bent_root = bent_e s * (p * p)
 
-  bent_decided : {o : Ordering} → leb bent_grid bent_up ≡ true → o ≡ nat_cmp ((bent_up - bent_grid) ^ 2 * (200 * s.radius)) (bent_root ^ 2 * s.wall) → Decides o (root_of 2 (axial_bent s)) p q
-  bent_decided e =
-      axial_bent_row s p q refl (bent_x s.modulus s.wall s.radius (10 * eta s.edges + 2) p) (bent_y (eta s.edges) s.radius s.yield_stress q) e refl
-      (bent_z s.modulus s.wall s.length p)
+  up : bent_up ≡ bent_c s * p ^ 2
+  up = ap (λ (n : ℕ). bent_c s * n) (sym (pow_two p))
+
+  down : bent_grid ≡ bent_d s * q ^ 2
+  down = mul_comm (q ^ 2) (bent_d s)
 
   -- a difference that is 0 is at most anything
   bent_nought : {o : Ordering} → bent_up < bent_grid → o ≡ nat_cmp ((bent_up - bent_grid) ^ 2 * (200 * s.radius)) (bent_root ^ 2 * s.wall) → is_le o ≡ true
@@ -100,7 +84,5 @@ module _ (s : Cylinder) (p q : ℕ) where
   bent_seen o h = go (leb bent_grid bent_up) refl
     where
       go : (b : Bool) → leb bent_grid bent_up ≡ b → is_le o ≡ (root_of 2 (axial_bent s)).reaches p q
-      go true e = (bent_decided e h).reaches
-      go false e =
-          bent_nought (leb-false bent_grid bent_up e) h
-          ∙ (axial_bent_low s p q refl (bent_x s.modulus s.wall s.radius (10 * eta s.edges + 2) p) (bent_y (eta s.edges) s.radius s.yield_stress q) e).reaches
+      go true e = (axial_bent_row s p q up down e refl (ap (λ (n : ℕ). bent_e s * n) (sym (pow_two p))) h).reaches
+      go false e = bent_nought (leb-false bent_grid bent_up e) h ∙ (axial_bent_low s p q up down e).reaches

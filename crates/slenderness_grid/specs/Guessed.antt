@@ -1,4 +1,4 @@
--- The guess at S for the two branches with a root. Nobody has to believe this: what a search finds does not depend on its guess.
+-- The guess at S for each branch. Nobody has to believe this: what a search finds does not depend on its guess.
 use Rattle.std.specs.Prelude.{◌≡◌, Bool, true, false, ℕ, ◌+◌, ◌-◌, ◌*◌, ◌^◌, ltb}
 use Rattle.algebra.specs.Choice.{pick}
 use Rattle.interval.specs.declared.Interval.{Interval}

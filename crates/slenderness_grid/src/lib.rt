@@ -1,8 +1,10 @@
 // The largest point of a grid that the related slenderness S of a cylinder reaches: by bounds, where these settle it, else by
-// exact comparisons.
+// exact comparisons. Five of the lists of factors, those of the yield stress, stand in `ideal` too, with p's q for the grid's: a
+// function for each would be as long as the list, with a contract, a proof and two edits besides. A branch has its own function: a
+// trait in place of the matches would need six types.
 #![tactic(auto)]
 
-ghost use Rattle.std.specs.Prelude.{◌≡◌, ℕ, ◌+◌, ◌-◌, ◌*◌, ◌^◌, ◌≤◌, ◌<◌};
+ghost use Rattle.std.specs.Prelude.{◌≡◌, ℕ, ◌*◌, ◌^◌, ◌<◌};
 ghost use Rattle.wide.specs.Value.{base};
 ghost use Rattle.interval.specs.declared.Interval.{Interval};
 ghost use Rattle.interval.specs.Around.{Around, Lies};
@@ -17,17 +19,18 @@ ghost use Rattle.slenderness_grid.specs.TermsOf.{Sheared, Bent};
 ghost use Rattle.slenderness_grid.specs.Guessed.{lifted_of, RoughRoot, PlainGuess, CurvedGuess, GuessFor};
 
 use cylinder::{Cylinder, Stress, ValidCylinder};
-use guess::{Degree, Roots};
+use guess::Degree;
 use interval::Interval;
 use interval_root::guess_of;
 use lengths::Branch;
 use slenderness_terms::Terms;
 use std::cmp::Ordering;
 
-// The finer of the two grids: its points are 1/200,000,000 apart.
-const FINER: u64 = 200000000;
+// How many points the finer of the two grids of S has to a unit; its guesses are in these points.
+pub const FINE: u64 = 200000000;
 
-// Where S is looked for: among the points k/q of a grid, for k up to the cap, and near a guess first.
+// Where S is looked for: among the points k/q of a grid, for k up to the cap, and near a guess first. The terms stay outside: they serve both grids.
+// q and the cap are u64, as in `steps`.
 #[derive(Clone, Copy)]
 pub struct Grid {
     pub q: u64,
@@ -47,7 +50,7 @@ fn root_highest<F: FnOnce() -> u64>(t: Terms, d: Degree, g: Grid, exact: F) -> u
 }
 
 // Axial stress, short: the largest k up to the cap such that S reaches k/q.
-fn axial_short_highest(roots: &Roots, s: Cylinder, t: Terms, g: Grid) -> u64
+fn axial_short_highest(s: Cylinder, t: Terms, g: Grid) -> u64
     requires { TwoTerms (axial_short_x s) (axial_short_y s) t }
     ensures { Highest (axial_short_cut s) g.q g.cap result }
 {
@@ -66,21 +69,21 @@ fn axial_short_highest(roots: &Roots, s: Cylinder, t: Terms, g: Grid) -> u64
         t,
         Degree::Two,
         g,
-        || root_search::exact_sum(roots, &x, &y, &z, Degree::Two, g.cap),
+        || root_search::exact_sum(&x, &y, &z, Degree::Two, g.cap),
     )
 }
 
 // Axial stress, long, where Cx is at its least.
-fn axial_floor_highest(roots: &Roots, s: Cylinder, g: Grid) -> u64
+fn axial_floor_highest(s: Cylinder, g: Grid) -> u64
     ensures { Highest (root_of 2 (axial_floor s)) g.q g.cap result }
 {
     let x = [726, s.modulus, s.wall];
     let z = [400000, s.radius, s.yield_stress, g.q, g.q];
-    root_search::root(roots, &x, &z, Degree::Two, g.cap)
+    root_search::root(&x, &z, Degree::Two, g.cap)
 }
 
 // Ring stress, short.
-fn ring_short_highest(roots: &Roots, s: Cylinder, t: Terms, g: Grid) -> u64
+fn ring_short_highest(s: Cylinder, t: Terms, g: Grid) -> u64
     requires { TwoTerms (ring_short_x s) (ring_short_y s) t }
     ensures { Highest (ring_short_cut s) g.q g.cap result }
 {
@@ -100,12 +103,12 @@ fn ring_short_highest(roots: &Roots, s: Cylinder, t: Terms, g: Grid) -> u64
         t,
         Degree::Four,
         g,
-        || root_search::exact(roots, &x, &z, Degree::Four, g.cap),
+        || root_search::exact(&x, &z, Degree::Four, g.cap),
     )
 }
 
 // Ring stress, long.
-fn ring_long_highest(roots: &Roots, s: Cylinder, t: Terms, g: Grid) -> u64
+fn ring_long_highest(s: Cylinder, t: Terms, g: Grid) -> u64
     requires { TwoTerms (ring_long_x s) (ring_long_y s) t }
     ensures { Highest (ring_long_cut s) g.q g.cap result }
 {
@@ -126,12 +129,12 @@ fn ring_long_highest(roots: &Roots, s: Cylinder, t: Terms, g: Grid) -> u64
         t,
         Degree::Two,
         g,
-        || root_search::exact_sum(roots, &x, &y, &z, Degree::Two, g.cap),
+        || root_search::exact_sum(&x, &y, &z, Degree::Two, g.cap),
     )
 }
 
 // Shear, long.
-fn shear_long_highest(roots: &Roots, s: Cylinder, t: Terms, g: Grid) -> u64
+fn shear_long_highest(s: Cylinder, t: Terms, g: Grid) -> u64
     requires { TwoTerms (shear_long_x s) (shear_long_y s) t }
     ensures { Highest (shear_long_cut s) g.q g.cap result }
 {
@@ -148,11 +151,11 @@ fn shear_long_highest(roots: &Roots, s: Cylinder, t: Terms, g: Grid) -> u64
         t,
         Degree::Four,
         g,
-        || root_search::exact(roots, &x, &z, Degree::Four, g.cap),
+        || root_search::exact(&x, &z, Degree::Four, g.cap),
     )
 }
 
-// Bounds of a² x.
+// Bounds of a² x. `root_order` has this and the next for exact numbers: why there is no trait is said at `roots::reaches`.
 fn squared(a: Interval, x: u64) -> Interval
     ensures { (n : ℕ) → Around a n → Around result (n ^ 2 * x) }
 {
@@ -176,7 +179,7 @@ fn shear_reaches(s: ValidCylinder, p: u64, q: u64, t: Terms) -> bool
     let a = interval::times(t.e, m);
     let b = interval::minus(t.d, interval::times(t.c, m));
     parted_roots(a, s.cylinder.wall, b, 200 * s.cylinder.radius)
-        .unwrap_or_else(|| shear_short::shear_short_order(s.cylinder, p, q))
+        .unwrap_or_else(|| shear_short::shear_short_order(s, p, q))
         .is_le()
 }
 
@@ -189,11 +192,11 @@ fn bent_reaches(s: ValidCylinder, p: u64, q: u64, t: Terms) -> bool
     let a = interval::minus(interval::times(t.c, m), t.d);
     let b = interval::times(t.e, m);
     parted_roots(a, 200 * s.cylinder.radius, b, s.cylinder.wall)
-        .unwrap_or_else(|| axial_long::axial_bent_order(s.cylinder, p, q))
+        .unwrap_or_else(|| axial_long::axial_bent_order(s, p, q))
         .is_le()
 }
 
-// The same number times 2^32, for a guess.
+// The same number times 2^32 where that fits, for a guess.
 #[tactic(auto, unfolding(crate::specs::Guessed::lifted_of))]
 fn lifted(n: Interval) -> Interval
     ensures { result ≡ lifted_of n }
@@ -206,12 +209,12 @@ fn lifted(n: Interval) -> Interval
 }
 
 // A number near √(w/(200 r)) · 2^32.
-fn rough_root(roots: &Roots, s: ValidCylinder) -> u64
+fn rough_root(s: ValidCylinder) -> u64
     ensures { RoughRoot s.cylinder result }
 {
     let a = interval::of(200 * s.cylinder.radius);
     let b = interval::of(s.cylinder.wall);
-    guess_of(roots, a, lifted(lifted(b)), Degree::Two)
+    guess_of(a, lifted(lifted(b)), Degree::Two)
 }
 
 // The terms at the grid q.
@@ -226,11 +229,11 @@ fn scaled(t: Terms, d: Degree, q: u64) -> Terms
 }
 
 // Axial stress, long: the smaller of two numbers, so the second is looked for up to the first.
-fn axial_long_highest(roots: &Roots, s: ValidCylinder, t: Terms, g: Grid) -> u64
+fn axial_long_highest(s: ValidCylinder, t: Terms, g: Grid) -> u64
     requires { ThreeTerms (bent_c s.cylinder) (bent_d s.cylinder) (bent_e s.cylinder) t }
     ensures { Highest (axial_long_cut s.cylinder) g.q g.cap result }
 {
-    let k = axial_floor_highest(roots, s.cylinder, g);
+    let k = axial_floor_highest(s.cylinder, g);
     let u = scaled(t, Degree::Two, g.q);
     steps::largest(k, g.near, |p| bent_reaches(s, p, g.q, u))
 }
@@ -245,15 +248,14 @@ fn shear_short_highest(s: ValidCylinder, t: Terms, g: Grid) -> u64
 }
 
 // A guess at S where it is a root, in points of the finer grid.
-fn plain_guess(roots: &Roots, t: Terms, d: Degree) -> u64
+fn plain_guess(t: Terms, d: Degree) -> u64
     ensures { PlainGuess d t result }
 {
-    guess_of(roots, t.c, interval_root::raised(t.d, d, FINER), d)
+    guess_of(t.c, interval_root::raised(t.d, d, FINE), d)
 }
 
 // A guess at S where e √(w/(200 r)) is joined to c, that is added to it or taken off: the root of d over that.
 fn curved_guess<F: FnOnce(Interval, Interval) -> Interval>(
-    roots: &Roots,
     s: ValidCylinder,
     t: Terms,
     d: Degree,
@@ -262,40 +264,41 @@ fn curved_guess<F: FnOnce(Interval, Interval) -> Interval>(
     requires { F.IsAlwaysCallable join }
     ensures { (joined : ℕ → ℕ → ℕ) → ((a b r : Interval) → F.post join a b r → (x y : ℕ) → Around a x → Around b y → Around r (joined x y)) → CurvedGuess joined d s.cylinder t result }
 {
-    let root = rough_root(roots, s);
+    let root = rough_root(s);
     let e = interval::times(t.e, interval::of(root));
     let x = join(lifted(t.c), e);
-    let y = interval_root::raised(t.d, d, FINER);
-    guess_of(roots, x, lifted(y), d)
+    let y = interval_root::raised(t.d, d, FINE);
+    guess_of(x, lifted(y), d)
 }
 
-// A guess at S in points of the finer grid.
-pub fn guess_for(roots: &Roots, b: Branch, t: Terms) -> u64
+// A guess at S in points of the finer grid. It is promised of any terms: so branch and terms stay two, as a type of both that has
+// them belong together would ask for that here too.
+pub fn guess_for(b: Branch, t: Terms) -> u64
     ensures { GuessFor b.kind b.short b.shell.cylinder t result }
 {
     let s = b.shell;
     match (b.kind, b.short) {
-        (Stress::Axial, true) => plain_guess(roots, t, Degree::Two),
-        (Stress::Axial, false) => curved_guess(roots, s, t, Degree::Two, interval::minus),
-        (Stress::Ring, true) => plain_guess(roots, t, Degree::Four),
-        (Stress::Ring, false) => plain_guess(roots, t, Degree::Two),
-        (Stress::Shear, true) => curved_guess(roots, s, t, Degree::Four, interval::plus),
-        (Stress::Shear, false) => plain_guess(roots, t, Degree::Four),
+        (Stress::Axial, true) => plain_guess(t, Degree::Two),
+        (Stress::Axial, false) => curved_guess(s, t, Degree::Two, interval::minus),
+        (Stress::Ring, true) => plain_guess(t, Degree::Four),
+        (Stress::Ring, false) => plain_guess(t, Degree::Two),
+        (Stress::Shear, true) => curved_guess(s, t, Degree::Four, interval::plus),
+        (Stress::Shear, false) => plain_guess(t, Degree::Four),
     }
 }
 
 // The largest k up to the cap such that S reaches k/q. It is asked at the guess first.
-pub fn highest(roots: &Roots, b: Branch, t: Terms, g: Grid) -> u64
+pub fn highest(b: Branch, t: Terms, g: Grid) -> u64
     requires { TermsFor b.kind b.short b.shell.cylinder t }
     ensures { Highest (cut_at b) g.q g.cap result }
 {
     let s = b.shell;
     match (b.kind, b.short) {
-        (Stress::Axial, true) => axial_short_highest(roots, s.cylinder, t, g),
-        (Stress::Axial, false) => axial_long_highest(roots, s, t, g),
-        (Stress::Ring, true) => ring_short_highest(roots, s.cylinder, t, g),
-        (Stress::Ring, false) => ring_long_highest(roots, s.cylinder, t, g),
+        (Stress::Axial, true) => axial_short_highest(s.cylinder, t, g),
+        (Stress::Axial, false) => axial_long_highest(s, t, g),
+        (Stress::Ring, true) => ring_short_highest(s.cylinder, t, g),
+        (Stress::Ring, false) => ring_long_highest(s.cylinder, t, g),
         (Stress::Shear, true) => shear_short_highest(s, t, g),
-        (Stress::Shear, false) => shear_long_highest(roots, s.cylinder, t, g),
+        (Stress::Shear, false) => shear_long_highest(s.cylinder, t, g),
     }
 }

@@ -18,20 +18,22 @@ pub struct Terms {
     pub e: Interval,
 }
 
-// Bounds of a product of two words, and of three.
+// Bounds of a product of two words.
 fn both(a: u64, b: u64) -> Interval
     ensures { Around result (a * b) }
 {
     interval::times(interval::of(a), interval::of(b))
 }
 
+// Bounds of a product of three words.
 fn three(a: u64, b: u64, c: u64) -> Interval
     ensures { Around result (a * b * c) }
 {
     interval::times(both(a, b), interval::of(c))
 }
 
-// The terms of a comparison without a root.
+// The terms of a comparison without a root. Where there is no e it is 0, of which nothing is known, and no Option: whoever reads e
+// has the branch, which tells that there is one.
 fn plain(c: Interval, d: Interval) -> Terms
     ensures { (result.c ≡ c) × (result.d ≡ d) }
 {
@@ -176,7 +178,7 @@ fn shear_long(s: ValidCylinder) -> Terms
     plain(both(a, b), both(f, g))
 }
 
-// The terms for a branch.
+// The terms for a branch. Six functions and a match: a trait would need six types.
 pub fn terms_for(b: Branch) -> Terms
     ensures { TermsFor b.kind b.short b.shell.cylinder result }
 {

@@ -3,18 +3,17 @@
 // partial factor. Numerators and denominators are kept apart, as products of whole numbers, and compared exactly.
 #![tactic(auto)]
 
-ghost use Rattle.std.specs.Prelude.{◌≡◌, ◌-◌, ◌*◌, ◌≤◌, ◌<◌, length};
+ghost use Rattle.std.specs.Prelude.{◌≡◌, ◌*◌, ◌≤◌, ◌<◌, length};
 ghost use Rattle.wide.specs.Value.{base};
 ghost use Rattle.factors.specs.Product.{prod};
 ghost use Rattle.cylinder.specs.WholeCurves.{reduction1, reduction2, tolerance_factor, safety};
 ghost use Rattle.cylinder.specs.Search.{most};
-ghost use Rattle.term.specs.TermOf.{SmallParts, part_of, factor1, factor2, reduced_of, factor_of, term_of, power_of};
+ghost use Rattle.term.specs.TermOf.{SmallParts, part_of, factor1, reduced_of, factor_of, term_of, power_of};
 
 use cylinder::Stress;
-use guess::Roots;
 use millionths::Power;
 
-// The branch of the reduction factor κ.
+// The branch of the reduction factor κ. κ1 has no cubic branch; its definition has the plateau there.
 #[derive(Clone, Copy)]
 pub enum Part {
     Plateau,
@@ -23,7 +22,7 @@ pub enum Part {
     Quadratic,
 }
 
-// The branches in which a slenderness lies.
+// The branches in which a slenderness lies. The partial factor has two flags, as its definition takes the two tests.
 #[derive(Clone, Copy)]
 pub struct Branches {
     // of the reduction factor
@@ -170,7 +169,7 @@ fn tolerated(r: Ratio<(u64, u64)>, at: Sample) -> Ratio<[u64; 3]>
 }
 
 // The factors of the resistance to ring stress and shear.
-fn first(at: Sample) -> Ratio<[u64; 3]>
+fn by_kappa1(at: Sample) -> Ratio<[u64; 3]>
     ensures above { prod result.above ≡ (factor1 at.branches at.excess).num at.point.k at.point.q }
     ensures below { prod result.below ≡ (factor1 at.branches at.excess).den at.point.k at.point.q }
 {
@@ -207,7 +206,7 @@ fn resistance(stress: Stress, at: Sample, x: u64, y: u64) -> Ratio<[u64; 5]>
             }
         }
         Stress::Ring | Stress::Shear => {
-            let r = first(at);
+            let r = by_kappa1(at);
             Ratio {
                 above: with(x, 1, r.above),
                 below: with(y, 1, r.below),
@@ -227,10 +226,10 @@ fn power_for(stress: Stress) -> Power
 }
 
 // The low bound of a stress's term, the yield stress fy in N/mm²: how many millionths it reaches, up to 2,000,000.
-pub fn low(roots: &Roots, stress: Stress, at: Sample, fy: u64, load: Load) -> u64
+pub fn low(stress: Stress, at: Sample, fy: u64, load: Load) -> u64
     requires { fy ≤ 700 }
     ensures { result ≡ most (term_of stress at.branches fy load.num load.den at.excess) at.point.k at.point.q }
 {
     let r = resistance(stress, at, 10000 * fy * load.den, 11 * load.num);
-    millionths::reached(roots, power_for(stress), &r.above, &r.below)
+    millionths::reached(power_for(stress), &r.above, &r.below)
 }

@@ -106,7 +106,7 @@ pub fn write(out: &mut [u8], c: &Cases) -> Result<usize, Refusal>
     if out.len() < ROOM_LEAST {
         return Err(Refusal::LineRoom);
     }
-    if c.groups.len() == 0 {
+    if c.groups.is_empty() {
         return Err(Refusal::Form);
     }
     c.check()?;
@@ -115,7 +115,7 @@ pub fn write(out: &mut [u8], c: &Cases) -> Result<usize, Refusal>
     Ok(page.length())
 }
 
-// The number of an answer in C: the bytes put, or that of the refusal.
+// The number of an answer in C: the bytes put, or that of the refusal. A function, since neither Result nor u64 is a type of this crate.
 pub fn number(written: Result<usize, Refusal>) -> u64
     ensures { result ≡ written_number written }
 {

@@ -33,7 +33,7 @@ pub returns : goal.returns
 returns c =
     let s = c.saturating_sub-s in
     let t = c.saturating_sub-t in
-    let f = c.if-not-fit.ensures refl in
+    let f = c.if-not-both_fit.ensures refl in
     let a = c.args.a in
     let b = c.args.b in
     let al = c.shifted.ensures in

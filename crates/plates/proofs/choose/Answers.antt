@@ -1,8 +1,9 @@
 -- `plates::choose` meets its contract. Assumes nothing.
-use mathlib.Core.Path.{ap, ◌∙◌}
+use mathlib.Core.Path.{◌≡◌, ap, ◌∙◌}
 use Prim.Native.Nat.{ℕ, ◌+◌}
-use Rattle.std.proofs.lemmas.Result.{err_from_is_err_and}
-use Rattle.std.specs.Prelude.{Option, Ok, Err, option_map}
+use Rattle.std.proofs.Common.{rules}
+use Rattle.std.specs.Prelude.{Option, Ok, option_map}
+use Rattle.answer.proofs.Checks.{returned}
 use Rattle.plates.specs.Plates.{Chosen}
 use Rattle.plates.proofs.Choices.{as_chosen, broken_choice, passed_choice}
 use Rattle.plates.proofs.choose.Goals as goal
@@ -14,18 +15,12 @@ placed r = Ok (option_map (λ i. i + 1) r)
 pub returns-in_err-check : goal.returns-in_err-check
 returns-in_err-check c =
     let a = c.args in
-    let p = err_from_is_err_and c.from_residual.result c.from_residual.ensures.1 in
-    let f = as_chosen a.s a.f a.plates.now _ (p.1 ∙ ap Err p.2 ∙ broken_choice a.s a.f a.plates.now _ c.in_err-check.ensures) in
+    let f = as_chosen a.s a.f a.plates.now _ (returned _ _ c.from_residual.ensures.1 ∙ broken_choice a.s a.f a.plates.now _ c.in_err-check.ensures) in
     record { value = f.0; right_choice = f.1 }
 
-pub returns-in-Some : goal.returns-in-Some
-returns-in-Some c =
+pub returns : goal.returns
+returns c =
     let a = c.args in
-    let f = as_chosen a.s a.f a.plates.now _ (ap placed c.in-Some.ensures ∙ passed_choice a.s a.f a.plates.now c.in_ok-check.ensures) in
-    record { value = f.0; right_choice = f.1 }
-
-pub returns-in-None : goal.returns-in-None
-returns-in-None c =
-    let a = c.args in
-    let f = as_chosen a.s a.f a.plates.now _ (ap placed c.in-None.ensures ∙ passed_choice a.s a.f a.plates.now c.in_ok-check.ensures) in
+    let at : c.map.result ≡ option_map (λ i. i + 1) c.first.result = search rules in
+    let f = as_chosen a.s a.f a.plates.now _ (ap Ok at ∙ ap placed c.first.ensures ∙ passed_choice a.s a.f a.plates.now c.in_ok-check.ensures) in
     record { value = f.0; right_choice = f.1 }

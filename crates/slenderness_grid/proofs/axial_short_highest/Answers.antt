@@ -1,7 +1,11 @@
 -- `slenderness_grid::axial_short_highest` meets its contract. Assumes nothing.
-use mathlib.Core.Path.{refl}
+use mathlib.Core.Path.{ap₂, ◌∙◌}
 use Rattle.std.proofs.Common.{rules}
-use Rattle.slenderness_grid.proofs.Rows.{of_equal, axial_short_x_lem, axial_short_y_lem, axial_short_row}
+use native.Mathlib.Nat.{mul_comm}
+use Rattle.roots.specs.Largest.{largest}
+use Prim.Native.Nat.{◌^◌}
+use Rattle.axial_long.proofs.Row.{with_squares}
+use Rattle.slenderness_grid.proofs.Rows.{axial_short_x_lem, axial_short_row}
 use Rattle.slenderness_grid.proofs.axial_short_highest.Goals as goal
 
 pub returns : goal.returns
@@ -10,4 +14,4 @@ returns c =
     let g = c.args.g in
     axial_short_row s g.q g.cap g.small.2
     (c.root_highest.ensures _ _ c.requires
-    (λ k h. of_equal _ _ (axial_short_x_lem s.modulus s.wall s.radius s.length) (axial_short_y_lem s.radius s.length s.yield_stress g.q) (search rules))) refl refl
+    (λ k h. search rules ∙ ap₂ (largest 2 g.cap) (axial_short_x_lem s.modulus s.wall s.radius s.length) (with_squares 16000000 s.radius s.length s.yield_stress g.q ∙ mul_comm _ (g.q ^ 2))))

@@ -2,6 +2,7 @@ use Rattle.text.proofs.Laws.{puts_then}
 use Rattle.listing.specs.Listing.{total}
 use Rattle.total.proofs.put_total.Goals as goal
 
+-- by hand, as in entry, readings and writer: with `puts_then` named at the function `returns` stays open
 pub returns : goal.returns
 unfolding total
 returns c =

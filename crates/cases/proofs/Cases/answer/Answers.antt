@@ -1,10 +1,9 @@
 -- `cases::Cases::answer` meets its contract. Assumes nothing.
 use mathlib.Core.Path.{◌≡◌, sym, ap, ◌∙◌, subst}
-use Rattle.std.proofs.lemmas.Result.{err_from_is_err_and}
 use Rattle.std.specs.Prelude.{Ok, Err}
 use Rattle.pressure.specs.declared.Order.{Order}
 use Rattle.answer.specs.Answers.{Answer}
-use Rattle.answer.proofs.Checks.{refusal_none, refused_first, passed_first}
+use Rattle.answer.proofs.Checks.{returned, refusal_none, refused_first, passed_first}
 use Rattle.cases.specs.declared.Cases.{Cases}
 use Rattle.cases.specs.Cases.{case_checks, RightCases}
 use Rattle.cases.specs.Answering.{load_cases, Counted, cases_answer}
@@ -19,12 +18,11 @@ pub returns-in_err-check : goal.returns-in_err-check
 unfolding cases_answer
 returns-in_err-check c =
     let self = c.args.self.now in
-    let p = err_from_is_err_and c.from_residual.result c.from_residual.ensures.1 in
-    let f = laid c.args.o self c.requires _ (p.1 ∙ ap Err p.2 ∙ refused_first (case_checks (load_cases self)) Err _ _ c.in_err-check.ensures) in
+    let f = laid c.args.o self c.requires _ (returned _ _ c.from_residual.ensures.1 ∙ refused_first (case_checks (load_cases self)) Err _ _ c.in_err-check.ensures) in
     record { value = f.0; right_cases = f.1 }
 
-pub judgement-requires : goal.judgement-requires
-judgement-requires c = (c.requires, refusal_none (case_checks (load_cases c.args.self.now)) c.in_ok-check.ensures)
+pub invariant_of-judgement : goal.invariant_of-judgement
+invariant_of-judgement c = record { counted = c.requires; passed = refusal_none (case_checks (load_cases c.args.self.now)) c.in_ok-check.ensures }
 
 pub returns : goal.returns
 unfolding cases_answer
