@@ -101,7 +101,7 @@ pub extern "C" fn shell_judge(
     ensures number_of_right { NumberOfRight (Right PressureFirst (record_of r t l e fy edges a sx (Stress sphi) tau d)) result }
 {
     let given = record_from(r, t, l, e, fy, edges, a, sx, Ring::Stress(sphi), tau, d);
-    answer::number(given.answer(Order::PressureFirst))
+    answer::number(Record::judge(given.wall, given.group))
 }
 
 // The same numbers, and the number of the writer's answer: the line is put at the start of `out`, or nothing is changed.

@@ -399,7 +399,7 @@ impl Record {
         Record { inner, ..self }
     }
 
-    // The answer to the record of a shell and a stress group. SCOPE 17.3 asks for it, as for a constructor: the calls of the library go by `answer`.
+    // The answer to the record of a shell and a stress group.
     pub fn judge(wall: Wall, group: Group) -> Answer
         ensures value { result ≡ record_answer PressureFirst (unpressed wall group) }
         ensures right { Right PressureFirst (unpressed wall group) result }
@@ -448,18 +448,26 @@ impl ValidRecord {
         self.given.group.ring.stress_on(self.cylinder())
     }
 
+    // The stress group as loads, with the ring stress that it is judged with.
+    fn loads(self) -> ByStress<Load>
+        ensures axial { (result.axial.num ≡ self.given.group.axial) × (result.axial.den ≡ 1) }
+        ensures ring { (result.ring.num ≡ ring_stress (cylinder_of self.given.wall) self.given.group.ring) × (result.ring.den ≡ 1) }
+        ensures shear { (result.shear.num ≡ self.given.group.shear) × (result.shear.den ≡ 1) }
+    {
+        let group = self.given.group;
+        ByStress {
+            axial: load(group.axial),
+            ring: load(self.ring_stress()),
+            shear: load(group.shear),
+        }
+    }
+
     // The judgement, where what depends on the wall and the pressure alone has been worked before.
     pub fn judgement_by(self, o: Order, w: Worked) -> Judgement
         requires { WorkedOn o self.given w }
         ensures { result ≡ judgement_of_record o self.given }
     {
-        let group = self.given.group;
-        let loads = ByStress {
-            axial: load(group.axial),
-            ring: load(self.ring_stress()),
-            shear: load(group.shear),
-        };
-        let l = self.pressed(o).of_group(w, loads);
+        let l = self.pressed(o).of_group(w, self.loads());
         Judgement::by_bounds(l.low, l.high)
     }
 
@@ -467,7 +475,7 @@ impl ValidRecord {
     fn judgement(self, o: Order) -> Judgement
         ensures { result ≡ judgement_of_record o self.given }
     {
-        let w = self.pressed(o).work(self.given.group.wanted());
-        self.judgement_by(o, w)
+        let b = self.pressed(o).of_line(self.loads());
+        Judgement::by_bounds(b.low, b.high)
     }
 }

@@ -125,14 +125,14 @@ module _
     unfolding enough
     passed k h = enough_agrees s (sound s pre.0) w v k ∙ or_right (by_cap s w v k) (root_within s w (rest s w v k)) h
 
-    top_found : top ≤ lo → WindStress s w v top
+    pub top_found : top ≤ lo → WindStress s w v top
     top_found le =
         record {
           at_least = cap_enough s (sound s pre.0) w v top (le-leb ((5 + 3 * v) * (s.radius * w)) (top * (25 * s.wall)) is-top.0);
           no_less = λ k lt. missed_below k lt (omega arith);
         }
 
-    lo_found : lo < top → root_within s w (rest s w v lo) ≡ true → WindStress s w v lo
+    pub lo_found : lo < top → root_within s w (rest s w v lo) ≡ true → WindStress s w v lo
     lo_found lt h = record { at_least = passed lo h; no_less = λ k less. missed_below k (omega arith) less }
 
     not_last : lo < top → p < 4294967295
@@ -147,10 +147,10 @@ module _
           le-leb (above s w) (below s * rest s w v hi ^ 4)
           (root_full (above s w) (below s) ((23 + 30 * v) * (s.radius * w)) (250 * s.wall) p hi (root.passed (not_last lt)) is-hi.0)
 
-      same_found : lo ≡ hi → WindStress s w v lo
+      pub same_found : lo ≡ hi → WindStress s w v lo
       same_found e = lo_found lt (rw e hi_within)
 
-      hi_found : (lo ≡ hi → ⊥) → root_within s w (rest s w v lo) ≡ false → WindStress s w v hi
+      pub hi_found : (lo ≡ hi → ⊥) → root_within s w (rest s w v lo) ≡ false → WindStress s w v hi
       hi_found apart h = record { at_least = passed hi hi_within; no_less = below_hi }
         where
           one_more : hi ≤ lo + 1

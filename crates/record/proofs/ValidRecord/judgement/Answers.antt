@@ -1,13 +1,14 @@
 -- `record::ValidRecord::judgement` meets its contract. Assumes nothing.
-use mathlib.Core.Path.{◌∙◌, ap}
-use mathlib.Core.Bool.{Bool}
-use Rattle.cylinder.specs.declared.ByStress.{ByStress}
-use Rattle.record.proofs.Loads.{worked_on}
+use mathlib.Core.Path.{ap, ◌∙◌}
+use Rattle.cylinder.specs.Search.{Pair}
+use Rattle.answer.specs.Answering.{judgement_of}
+use Rattle.record.proofs.Loads.{bounds_are}
 use Rattle.record.proofs.ValidRecord.judgement.Goals as goal
 
-pub judgement_by-requires : goal.judgement_by-requires
-judgement_by-requires c =
-    let w = c.wanted.ensures in
+pub returns : goal.returns
+returns c =
     let e = c.pressed.ensures in
-    worked_on c.args.o c.args.self.given c.pressed.result _ e.order e.shell e.pressure (λ n. ap (λ (b : ByStress Bool). b.axial) w ∙ n) (λ n. ap (λ (b : ByStress Bool). b.ring) w ∙ n)
-    (λ n. ap (λ (b : ByStress Bool). b.shear) w ∙ n) c.work-w.ensures
+    let r = c.loads.ensures in
+    c.by_bounds.ensures
+    ∙ ap (λ (b : Pair). judgement_of b.low b.high)
+    (c.of_line-b.ensures ∙ bounds_are c.args.o c.args.self.given c.pressed.result c.loads.result e.order e.shell e.pressure r.axial r.ring r.shear)

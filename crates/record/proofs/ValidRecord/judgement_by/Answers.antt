@@ -8,8 +8,7 @@ use Rattle.record.proofs.ValidRecord.judgement_by.Goals as goal
 pub returns : goal.returns
 returns c =
     let e = c.pressed.ensures in
-    let r = c.load-2.ensures in
+    let r = c.loads.ensures in
     c.by_bounds.ensures
     ∙ ap (λ (b : Pair). judgement_of b.low b.high)
-    (c.of_group-l.ensures
-    ∙ bounds_are c.args.o c.args.self.given c.pressed.result (record { axial = c.load.result; ring = c.load-2.result; shear = c.load-3.result }) e.order e.shell e.pressure c.load.ensures (r.0 ∙ c.ring_stress.ensures.value, r.1) c.load-3.ensures)
+    (c.of_group-l.ensures ∙ bounds_are c.args.o c.args.self.given c.pressed.result c.loads.result e.order e.shell e.pressure r.axial r.ring r.shear)
