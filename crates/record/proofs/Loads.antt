@@ -1,7 +1,7 @@
 -- Laws for the code: what a record that breaks no check allows to be called, the stresses of a group as loads, and the bounds of the sum. Assumes nothing.
 use mathlib.Core.Path.{◌≡◌, refl, sym, subst}
 use mathlib.Core.Bool.{true}
-use Prim.Native.Nat.{ℕ, ◌≤◌, ◌<◌}
+use Prim.Native.Nat.{ℕ, zero, suc, ◌≤◌, ◌<◌}
 use native.Mathlib.Omega.{arith}
 use lib.Dec.{ltb}
 use borrow.Author.Tests.{leb-true, lt-ltb}
@@ -18,6 +18,7 @@ use Rattle.line_bounds.specs.declared.Pressed.{Pressed}
 use Rattle.line_bounds.specs.declared.Worked.{Worked}
 use Rattle.line_bounds.specs.Places.{Whole, WorkedFor, line_of}
 use Rattle.line_bounds.proofs.Wanted.{worked_same}
+use Rattle.wind.proofs.Stress.{no_wind}
 use Rattle.record.specs.declared.Ring.{Ring}
 use Rattle.record.specs.declared.Ring.TheVariants.{Stress, Wind}
 use Rattle.record.specs.declared.Record.{Record}
@@ -39,17 +40,18 @@ module _ (c : Record) (all : AllPassed (checks c)) where
   pub pressure_fits : (p : ℕ) → p ≡ pressure_of c.inner → p ≤ 1000000
   pressure_fits p e = omega (arith, leb-true (pressure_of c.inner) 1000000 all.1.1.1.1.1.1.1.0)
 
--- a ring stress above 0 comes from one or from wind
-ring_loaded : (s : Cylinder) (r : Ring) → 0 < ring_stress s r → has_ring r ≡ true
-ring_loaded s (Stress σφ) some = lt-ltb 0 σφ some
-ring_loaded s (Wind w v) some = refl
+-- a ring stress above 0 comes from one or from wind, and a gust of 0 makes none
+ring_loaded : (s : Cylinder) → InLimits s → (r : Ring) → 0 < ring_stress s r → has_ring r ≡ true
+ring_loaded s ok (Stress σφ) some = lt-ltb 0 σφ some
+ring_loaded s ok (Wind zero v) some = absurd (omega (arith, some, no_wind s ok v))
+ring_loaded s ok (Wind (suc w) v) some = lt-ltb 0 (suc w) (omega arith)
 
 -- what was worked for the places that a record needs serves it
 pub worked_on : {A R H : Type 0} (o : Order) (c : Record) (v : Pressed) (w : Worked) → v.order ≡ o → v.shell.cylinder ≡ cylinder_of c.wall → v.pressure.pascals ≡ pressure_of c.inner →
     (ltb 0 c.group.axial ≡ true → A) → (has_ring c.group.ring ≡ true → R) → (ltb 0 c.group.shear ≡ true → H) → WorkedFor v.order v.shell.cylinder v.pressure.pascals A R H w → WorkedOn o c w
 worked_on o c v w d e f a r h k =
     subst (λ (x : Order). WorkedOn x c w) d
-    (worked_same _ _ _ _ _ e f (λ n. a (lt-ltb 0 c.group.axial n)) (λ n. r (ring_loaded (cylinder_of c.wall) c.group.ring n)) (λ n. h (lt-ltb 0 c.group.shear n)) k)
+    (worked_same _ _ _ _ _ e f (λ n. a (lt-ltb 0 c.group.axial n)) (λ n. r (ring_loaded (cylinder_of c.wall) (subst InLimits e v.shell.in_limits) c.group.ring n)) (λ n. h (lt-ltb 0 c.group.shear n)) k)
 
 -- a whole stress as a load
 load_whole : {x : ℕ} (l : Load) → (l.num ≡ x) × (l.den ≡ 1) → fraction_of l ≡ whole x

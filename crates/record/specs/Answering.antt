@@ -44,10 +44,10 @@ ring_stress_of c = first_or (λ n. 0) (ring_stress (cylinder_of c.wall) c.group.
 unfoldable pub gain_of_record : Order → Record → Gain
 gain_of_record o c = first_or (λ n. Idle) (gain_of o (cylinder_of c.wall) (pressure_of c.inner)) (checks c)
 
--- there is a ring stress, or wind, which may make one
+-- there is a ring stress, or wind that makes one
 abbrev pub has_ring : Ring → Bool
 has_ring (Stress σφ) = ltb 0 σφ
-has_ring (Wind w v) = true
+has_ring (Wind w v) = ltb 0 w
 
 -- the places of S that a group needs
 abbrev pub wanted_of : Group → ByStress Bool

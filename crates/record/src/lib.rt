@@ -196,13 +196,13 @@ impl Ring {
         }
     }
 
-    // Whether there is a ring stress, or wind, which may make one.
+    // Whether there is a ring stress, or wind that makes one.
     fn is_loaded(self) -> bool
         ensures { result ≡ has_ring self }
     {
         match self {
             Ring::Stress(stress) => 0 < stress,
-            Ring::Wind(_, _) => true,
+            Ring::Wind(gust, _) => 0 < gust,
         }
     }
 
