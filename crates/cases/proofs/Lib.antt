@@ -5,3 +5,4 @@ pub mod Wanting
 pub mod Worst
 pub mod Fives
 pub mod Orders
+pub mod Places

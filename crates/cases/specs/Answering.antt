@@ -7,13 +7,13 @@ use Rattle.answer.specs.Answers.{Answer}
 use Rattle.answer.specs.declared.Judgement.{Judgement}
 use Rattle.answer.specs.Governing.{governing}
 use Rattle.answer.specs.Answering.{first_or, judgement_of, of_case}
-use Rattle.record.specs.declared.Ring.TheVariants.{Stress}
 use Rattle.record.specs.declared.Group.{Group}
 use Rattle.record.specs.Limits.{stresses, wind_allowed}
 use Rattle.record.specs.Answering.{has_ring, judgement_of_record}
 use Rattle.cases.specs.declared.Cases.{Cases}
 use Rattle.cases.specs.Numbers.{first_from}
 use Rattle.cases.specs.Cases.{LoadCases, alone, every, case_checks, At}
+pub use Rattle.cases.specs.Places.{no_group}
 
 -- what they stand for
 abbrev pub load_cases : Cases → LoadCases
@@ -31,10 +31,6 @@ pub record Stands (six thirteen : Bool) (g : Group) : Type 0 where
 -- a group stands for all
 abbrev pub StandsFor : List Group → Group → Type 0
 StandsFor gs g = Stands (every stresses gs) (every (λ h. wind_allowed h.ring) gs) g
-
--- a load case without stress
-abbrev pub no_group : Group
-no_group = record { axial = 0; ring = Stress 0; shear = 0 }
 
 -- the places of S that a load case needs are wanted
 pub record WantedFor (g : Group) (w : ByStress Bool) : Type 0 where

@@ -2,13 +2,15 @@
 
 ghost use Rattle.std.specs.Prelude.{◌≡◌, ◌≤◌, ◌<◌, List, [], ◌∷◌, ◌++◌, length, take, eqb};
 ghost use Rattle.record.specs.declared.Group.{Group};
+ghost use Rattle.cases.specs.Places.{unused, Held, taken, given_back};
 
 use record::Group;
 use std::marker::Model;
 
-// A list of groups that never allocates: the first `count` of the places. (`ArrayVec` has a record with a field of items for its value, so each definition
-// that reads the groups would name that field. It asks for a `Default` of Group besides.)
-#[derive(Drop)]
+// A list of groups that never allocates: the first `count` of the places. The others hold `NONE`, so that the groups tell what all places hold: a type with
+// a view is `Copy` only if the view forgets nothing. (`ArrayVec` has a record with a field of items for its value, so each definition that reads the groups
+// would name that field. It asks for a `Default` of Group besides.)
+#[derive(Clone, Copy)]
 pub struct Groups {
     places: [Group; Self::MOST],
     count: usize,
@@ -19,7 +21,14 @@ impl Model for Groups {
 
     ghost view = { λ g. take g.count g.places };
 
-    ghost invariant = { λ g. (g.count ≤ 8) × (length g.places ≡ 8) };
+    ghost invariant = { λ g. Held g.places g.count };
+
+    ghost inverse = { λ gs. record { places = gs ++ unused (length gs); count = length gs } };
+
+    ghost inverse_ok = { λ g h i. record {
+      places = given_back g.places g.count h i;
+      count = taken g.places g.count h i;
+    } };
 }
 
 impl Groups {

@@ -22,7 +22,7 @@ mod group_list;
 pub use group_list::Groups;
 
 // A shell with its load cases. There may be none, and `answer`, which needs one, says so: a call that writes a line may give none, and the writer refuses it.
-#[derive(Drop)]
+#[derive(Clone, Copy)]
 pub struct Cases {
     pub wall: Wall,
     pub groups: Groups,
