@@ -1,7 +1,7 @@
 -- Demand 3 (SCOPE 9.3), proved of `outcome`, and so, by its contract, of `run`.
 -- Assumes nothing.
 use mathlib.Core.Path.{◌≡◌, refl, sym, ap, ◌∙◌, subst}
-use Prim.Native.Nat.{ℕ, ◌+◌, ◌*◌, ◌≤◌, ◌<◌}
+use Prim.Native.Nat.{ℕ, ◌+◌, ◌*◌, ◌≤◌, ◌<◌, zero-le}
 use native.Mathlib.Omega.{arith}
 use mathlib.Core.Bool.{true}
 use mathlib.Core.Logic.{◌↔◌, ◌⊎◌, inl, inr}
@@ -12,7 +12,8 @@ use borrow.Author.Tests.{leb-true, leb-false}
 use Rattle.pressure.specs.declared.Order.TheVariants.{PressureFirst}
 use Rattle.text.specs.Bytes.{ascii, digits, decimal, lines, lacks_newline}
 use Rattle.text.proofs.Laws.{lines_final}
-use Rattle.std.specs.Prelude.{Ok, Err}
+use Rattle.std.specs.Prelude.{Ok, Err, IsErrAnd}
+use Rattle.std.proofs.lemmas.Result.{err_from_is_err_and}
 use Rattle.answer.specs.declared.Refusal.{Refusal}
 use Rattle.answer.specs.Answers.{Answer}
 use Rattle.answer.specs.Checks.{FirstBroken, AllPassed}
@@ -24,7 +25,8 @@ use Rattle.listing.specs.Listing.{entry, entries, count, counts, total, joined, 
 use Rattle.listing.proofs.Totals.{count_sum}
 use Rattle.listing.proofs.Lines.{listing_lines, entries_length, entries_at}
 use Rattle.outcome.specs.declared.Listed.{Listed}
-use Rattle.outcome.specs.Sheet.{line_at, answers_by, listing_by, sheet_checks, Outcome, turned_back, listed_by}
+use Rattle.outcome.specs.declared.TurnedBack.{TurnedBack}
+use Rattle.outcome.specs.Sheet.{line_at, answers_by, listing_by, sheet_checks, Outcome, turned_back_by, turned_back, listed_by, length_of}
 use Rattle.outcome.specs.Running.{ruled, listing, outcome}
 use Rattle.outcome.specs.Demand3.{Run, turned, listed, written, ReadBack, Demand3}
 use Rattle.outcome.proofs.Laws.{sheet_room, accepted}
@@ -173,12 +175,23 @@ demand_of sheet out out' r e = subst (λ (q : Outcome × List ℕ). Demand3 rule
 
 module _ (sheet out : List ℕ) where
   -- a refusal is returned exactly if its check is the first broken
-  pub returned_broken : (e : Refusal) → ((outcome sheet out).0 ≡ Err e) ↔ FirstBroken (sheet_checks sheet (length out)) e
-  returned_broken e = (λ is. by (run_right sheet out) is, λ f. ap (λ (q : Outcome × List ℕ). q.0) (broken_outcome sheet out e f))
+  pub returned_broken : (e : Refusal) → IsErrAnd (outcome sheet out).0 (λ t. t.refusal ≡ e) ↔ FirstBroken (sheet_checks sheet (length out)) e
+  returned_broken e = (
+    λ is. let (t, r, same) = err_from_is_err_and (outcome sheet out).0 is in rw (← same) (by (run_right sheet out) t r),
+    λ f. subst (λ (q : Outcome × List ℕ). IsErrAnd q.0 (λ t. t.refusal ≡ e)) (sym (broken_outcome sheet out e f)) refl,
+  )
     where
-      by : Run ruled sheet out (outcome sheet out).0 (outcome sheet out).1 → (outcome sheet out).0 ≡ Err e → FirstBroken (sheet_checks sheet (length out)) e
-      by (turned m f r o) is = let same : m ≡ e = cc in rw (← same) f
-      by (listed all l o) is = cc
+      by : Run ruled sheet out (outcome sheet out).0 (outcome sheet out).1 → (t : TurnedBack) → (outcome sheet out).0 ≡ Err t → FirstBroken (sheet_checks sheet (length out)) t.refusal
+      by (turned m f r o) t is = let same : turned_back_by m ≡ t = cc in rw (← same) f
+      by (listed all l o) t is = cc
+
+  -- SCOPE 11.4: and with it counts of 0 and a length of 0
+  pub returned_nothing : (t : TurnedBack) → (outcome sheet out).0 ≡ Err t → t ≡ turned_back_by t.refusal
+  returned_nothing t is = by (run_right sheet out)
+    where
+      by : Run ruled sheet out (outcome sheet out).0 (outcome sheet out).1 → t ≡ turned_back_by t.refusal
+      by (turned m f r o) = let same : turned_back_by m ≡ t = cc in rw (← same) refl
+      by (listed all l o) = cc
 
   -- a listing is returned exactly if none is broken
   pub returned_passed : ((w : Listed) × ((outcome sheet out).0 ≡ Ok w)) ↔ AllPassed (sheet_checks sheet (length out))
@@ -189,15 +202,15 @@ module _ (sheet out : List ℕ) where
       by (listed all l o) w is = all
 
   -- SCOPE 10.1 to 10.3: a sheet that is turned back leaves the buffer as it was
-  pub untouched : (e : Refusal) → (outcome sheet out).0 ≡ Err e → (outcome sheet out).1 ≡ out
-  untouched e is = by (run_right sheet out)
+  pub untouched : (t : TurnedBack) → (outcome sheet out).0 ≡ Err t → (outcome sheet out).1 ≡ out
+  untouched t is = by (run_right sheet out)
     where
       by : Run ruled sheet out (outcome sheet out).0 (outcome sheet out).1 → (outcome sheet out).1 ≡ out
       by (turned m f r o) = o
       by (listed all l o) = cc
 
 -- a buffer of 24 × 1,024 + 40 bytes is long enough for every sheet
-pub room_enough : (sheet out : List ℕ) → 24616 ≤ length out → (outcome sheet out).0 ≡ Err Refusal.ListingRoom → ⊥
+pub room_enough : (sheet out : List ℕ) → 24616 ≤ length out → IsErrAnd (outcome sheet out).0 (λ t. t.refusal ≡ Refusal.ListingRoom) → ⊥
 room_enough sheet out h e = no ((returned_broken sheet out Refusal.ListingRoom).0 e)
   where
     no : FirstBroken (sheet_checks sheet (length out)) Refusal.ListingRoom → ⊥
@@ -207,5 +220,9 @@ room_enough sheet out h e = no ((returned_broken sheet out Refusal.ListingRoom).
     no (inr (t, inr (few, inr (u, none)))) = none
 
 -- the returned length is within the buffer, for whoever prints so many of its bytes
-pub length_fits : (rule : List ℕ → Answer) (sheet out out' : List ℕ) (r : Outcome) → Demand3 rule sheet out r out' → (w : Listed) → r ≡ Ok w → w.length ≤ length out'
-length_fits rule sheet out out' r d w z = (d.read_back w z).fits
+pub length_fits : (rule : List ℕ → Answer) (sheet out out' : List ℕ) (r : Outcome) → Demand3 rule sheet out r out' → length_of r ≤ length out'
+length_fits rule sheet out out' r d = by d.run
+  where
+    by : Run rule sheet out r out' → length_of r ≤ length out'
+    by (turned n f t o) = rw t zero-le
+    by (listed all t o) = rw t ((d.read_back (listed_by rule sheet) t).fits)

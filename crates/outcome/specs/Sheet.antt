@@ -1,12 +1,13 @@
 -- SCOPE 9.4 to 9.9, 10.1 to 10.3, 11.3 and 11.4: the answers to the lines of a sheet by a rule, their listing, and what a sheet that is turned
 -- back gives.
-use Rattle.std.specs.Prelude.{ℕ, ◌+◌, ◌*◌, List, [], ◌∷◌, map, length, get_or, leb, Result, Err}
+use Rattle.std.specs.Prelude.{ℕ, ◌+◌, ◌*◌, List, [], ◌∷◌, map, length, get_or, leb, Result, Ok, Err}
 use Rattle.text.specs.Bytes.{lines}
 use Rattle.answer.specs.declared.Refusal.{Refusal}
 use Rattle.answer.specs.Answers.{Answer}
 use Rattle.answer.specs.Checks.{Check, check}
-use Rattle.listing.specs.Listing.{counts, listing_of}
+use Rattle.listing.specs.Listing.{counts, no_counts, listing_of}
 use Rattle.outcome.specs.declared.Listed.{Listed}
+use Rattle.outcome.specs.declared.TurnedBack.{TurnedBack}
 
 -- line k of a sheet, counted from 0
 abbrev pub line_at : List ℕ → ℕ → List ℕ
@@ -39,14 +40,22 @@ sheet_checks sheet room = size_check sheet ∷ lines_check sheet ∷ room_check 
 
 -- ---- what is returned
 
--- what is said of a listing, or why there is none
+-- what is said of a listing, or of a sheet that is turned back
 abbrev pub Outcome : Type 0
-Outcome = Result Listed Refusal
+Outcome = Result Listed TurnedBack
 
--- of a sheet that is turned back: the refusal
+-- of a sheet that is turned back by r: that it is r, counts of 0 and a length of 0
+abbrev pub turned_back_by : Refusal → TurnedBack
+turned_back_by r = record { refusal = r; counts = no_counts; length = 0 }
+
 abbrev pub turned_back : Refusal → Outcome
-turned_back r = Err r
+turned_back r = Err (turned_back_by r)
 
 -- of a sheet that is listed: how many answers there are of each kind, and the length of the listing
 abbrev pub listed_by : (List ℕ → Answer) → List ℕ → Listed
 listed_by rule sheet = record { counts = counts (answers_by rule sheet); length = length (listing_by rule sheet) }
+
+-- the length that is returned, of a listing or of a sheet that is turned back
+abbrev pub length_of : Outcome → ℕ
+length_of (Ok w) = w.length
+length_of (Err t) = t.length

@@ -4,7 +4,7 @@
 ghost use Rattle.std.specs.Prelude.{◌≡◌, length};
 ghost use Rattle.text.specs.Bytes.{lines};
 ghost use Rattle.answer.specs.Answering.{refusal_by};
-ghost use Rattle.outcome.specs.Sheet.{sheet_checks};
+ghost use Rattle.outcome.specs.Sheet.{sheet_checks, turned_back_by};
 
 use answer::Refusal;
 use lines::Lines;
@@ -31,8 +31,29 @@ pub struct Listed {
     pub length: usize,
 }
 
-// What a run returns: what is said of the listing, or why the sheet is turned back.
-pub type Outcome = Result<Listed, Refusal>;
+// What is said of a sheet that is turned back: why, and that there is no count and no length.
+#[derive(Clone, Copy)]
+pub struct TurnedBack {
+    pub refusal: Refusal,
+    pub counts: Counts,
+    pub length: usize,
+}
+
+// A check that is broken turns the sheet back.
+impl From<Refusal> for TurnedBack {
+    ghost from_gives = { λ r t. t ≡ turned_back_by r };
+
+    fn from(refusal: Refusal) -> TurnedBack {
+        TurnedBack {
+            refusal,
+            counts: Counts::none(),
+            length: 0,
+        }
+    }
+}
+
+// What a run returns: what is said of the listing, or of a sheet that is turned back.
+pub type Outcome = Result<Listed, TurnedBack>;
 
 // How many lines a sheet has: one for each newline, and one for bytes behind the last.
 #[tactic(auto, using(text::proofs::Laws::lines_le))]

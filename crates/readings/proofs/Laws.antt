@@ -7,7 +7,7 @@ use native.Mathlib.Omega.{arith}
 use lib.ListN.{length, drop, length-append}
 use lib.Dec.{eqb, lit≤}
 use borrow.Author.Tests.{eq-eqb}
-use Rattle.std.specs.Prelude.{Result, Ok, Err, Option, None, Some, IfOk}
+use Rattle.std.specs.Prelude.{Result, Ok, Err, Option, None, Some}
 use Rattle.text.specs.Bytes.{decimal, lines}
 use Rattle.text.specs.Slices.{put}
 use Rattle.text.specs.declared.Page.{Page}
@@ -28,9 +28,10 @@ use Rattle.reading.specs.Answering.{answer_to}
 use Rattle.reading.proofs.Answers.{answer_right}
 use Rattle.reading.proofs.Orders.{line_same, line_changed}
 use Rattle.listing.specs.Listing.{verdict_word}
-use Rattle.outcome.specs.Sheet.{sheet_checks}
+use Rattle.outcome.specs.declared.TurnedBack.{TurnedBack}
+use Rattle.outcome.specs.Sheet.{sheet_checks, turned_back_by}
 use Rattle.outcome.proofs.Laws.{accepted}
-use Rattle.readings.specs.Readings.{change_of, row, rows, Compares, turned, compared, Readings}
+use Rattle.readings.specs.Readings.{change_of, row, rows, Compares, turned, compared, rows_length, Readings}
 use Rattle.readings.specs.Running.{differences, comparison}
 
 -- ---- the room that rows take
@@ -130,9 +131,9 @@ module _ (sheet out : List ℕ) where
       let a = accepted sheet (length out) all in
       omega (arith, rows_short (answer_to ToleranceFirst) (answer_to PressureFirst) 1 (lines sheet) (omega (arith, a.few)), a.enough)
 
-  pub run_turned : (e : Refusal) → Err e ≡ refusal_by (sheet_checks sheet (length out)) → ◌≡◌ {A = Result ℕ Refusal × List ℕ} (Err e, out) (comparison sheet out)
+  pub run_turned : (e : Refusal) → Err e ≡ refusal_by (sheet_checks sheet (length out)) → ◌≡◌ {A = Result ℕ TurnedBack × List ℕ} (Err (turned_back_by e), out) (comparison sheet out)
   unfolding comparison
-  run_turned e is = refused_first (sheet_checks sheet (length out)) (λ m. (Err m, out)) _ e is
+  run_turned e is = refused_first (sheet_checks sheet (length out)) (λ m. (Err (turned_back_by m), out)) _ e is
 
   module _ (is : Ok tt ≡ refusal_by (sheet_checks sheet (length out))) where
     pub run_short : length sheet ≤ 65535
@@ -142,18 +143,18 @@ module _ (sheet out : List ℕ) where
     run_room = rows_room (refusal_none (sheet_checks sheet (length out)) is)
 
     pub run_compared : (r : ℕ) (out' : List ℕ) → r ≡ length (differences sheet) → out' ≡ put out 0 (differences sheet) →
-        ◌≡◌ {A = Result ℕ Refusal × List ℕ} (Ok r, out') (comparison sheet out)
+        ◌≡◌ {A = Result ℕ TurnedBack × List ℕ} (Ok r, out') (comparison sheet out)
     unfolding comparison
     run_compared r out' a w =
         (λ i. (Ok (a i), (w ∙ put_all out (differences sheet) run_room) i))
-        ∙ passed_first (sheet_checks sheet (length out)) (λ m. (Err m, out)) _ is
+        ∙ passed_first (sheet_checks sheet (length out)) (λ m. (Err (turned_back_by m), out)) _ is
 
 -- what is written and returned so is what is laid down
 module _ (sheet out : List ℕ) where
-  abbrev Claim : Result ℕ Refusal × List ℕ → Type 0
+  abbrev Claim : Result ℕ TurnedBack × List ℕ → Type 0
   Claim q = Readings (answer_to ToleranceFirst) (answer_to PressureFirst) sheet out q.0 q.1
 
-  claim : (q : Result ℕ Refusal × List ℕ) → Compares (answer_to ToleranceFirst) (answer_to PressureFirst) sheet out q.0 q.1 → IfOk q.0 (λ n. n ≤ length q.1) → Claim q
+  claim : (q : Result ℕ TurnedBack × List ℕ) → Compares (answer_to ToleranceFirst) (answer_to PressureFirst) sheet out q.0 q.1 → rows_length q.0 ≤ length q.1 → Claim q
   claim q run fits =
       record {
         run = run;
@@ -167,18 +168,18 @@ module _ (sheet out : List ℕ) where
   pub readings_right : Claim (comparison sheet out)
   unfolding comparison
   readings_right =
-      go (first_or_lem (λ n. (Err n, out)) (Ok (length (differences sheet)), differences sheet ++ drop (length (differences sheet)) out)
+      go (first_or_lem (λ n. (Err (turned_back_by n), out)) (Ok (length (differences sheet)), differences sheet ++ drop (length (differences sheet)) out)
       (sheet_checks sheet (length out)))
     where
-      go : ((n : Refusal) × (FirstBroken (sheet_checks sheet (length out)) n × (comparison sheet out ≡ (Err n, out))))
+      go : ((n : Refusal) × (FirstBroken (sheet_checks sheet (length out)) n × (comparison sheet out ≡ (Err (turned_back_by n), out))))
           ⊎ (AllPassed (sheet_checks sheet (length out)) × (comparison sheet out ≡ (Ok (length (differences sheet)), differences sheet ++ drop (length (differences sheet)) out)))
           → Claim (comparison sheet out)
-      go (inl (n, (f, e))) = subst Claim (sym e) (claim (Err n, out) (turned n f refl refl) tt)
+      go (inl (n, (f, e))) = subst Claim (sym e) (claim (Err (turned_back_by n), out) (turned n f refl refl) zero-le)
       go (inr (all, e)) =
           subst Claim (sym e)
           (claim (Ok (length (differences sheet)), differences sheet ++ drop (length (differences sheet)) out) (compared all refl refl)
           (omega (arith, length-append (differences sheet) (drop (length (differences sheet)) out))))
 
   -- for the code
-  pub readings_of : (r : Result ℕ Refusal) (out' : List ℕ) → ◌≡◌ {A = Result ℕ Refusal × List ℕ} (r, out') (comparison sheet out) → Claim (r, out')
+  pub readings_of : (r : Result ℕ TurnedBack) (out' : List ℕ) → ◌≡◌ {A = Result ℕ TurnedBack × List ℕ} (r, out') (comparison sheet out) → Claim (r, out')
   readings_of r out' e = subst Claim (sym e) readings_right

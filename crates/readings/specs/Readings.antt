@@ -1,5 +1,5 @@
 -- SCOPE 27.3 to 27.5: a sheet judged by both readings of the pressure's test, with a row for each line whose verdicts differ.
-use Rattle.std.specs.Prelude.{ℕ, ◌+◌, ◌≤◌, ◌≡◌, ◌⊎◌, List, [], ◌∷◌, ◌++◌, length, drop, eqb, Result, Ok, Err, Option, None, Some, IfOk}
+use Rattle.std.specs.Prelude.{ℕ, ◌+◌, ◌≤◌, ◌≡◌, ◌⊎◌, List, [], ◌∷◌, ◌++◌, length, drop, eqb, Result, Ok, Err, Option, None, Some}
 use Rattle.algebra.specs.Choice.{pick}
 use Rattle.text.specs.Bytes.{ascii, decimal, lines}
 use Rattle.pressure.specs.declared.Order.TheVariants.{ToleranceFirst, PressureFirst}
@@ -12,7 +12,8 @@ use Rattle.cases.specs.Cases.{LoadCases}
 use Rattle.reading.specs.Text.{Spells}
 use Rattle.reading.specs.Answers.{RightLine, Changed}
 use Rattle.listing.specs.Listing.{verdict_word, ended}
-use Rattle.outcome.specs.Sheet.{sheet_checks}
+use Rattle.outcome.specs.declared.TurnedBack.{TurnedBack}
+use Rattle.outcome.specs.Sheet.{sheet_checks, turned_back_by}
 
 -- ---- a row
 
@@ -39,15 +40,20 @@ rows_of old new sheet = rows old new 1 (lines sheet)
 -- ---- a run
 
 -- turned back by the first check broken, with the buffer untouched; or compared, with the rows at the start of the buffer and the bytes past them as they were
-pub data Compares (old new : List ℕ → Answer) (sheet out : List ℕ) (r : Result ℕ Refusal) (out' : List ℕ) : Type 0 where
-  turned : (e : Refusal) → FirstBroken (sheet_checks sheet (length out)) e → r ≡ Err e → out' ≡ out → Compares old new sheet out r out'
+pub data Compares (old new : List ℕ → Answer) (sheet out : List ℕ) (r : Result ℕ TurnedBack) (out' : List ℕ) : Type 0 where
+  turned : (e : Refusal) → FirstBroken (sheet_checks sheet (length out)) e → r ≡ Err (turned_back_by e) → out' ≡ out → Compares old new sheet out r out'
   compared : AllPassed (sheet_checks sheet (length out)) → r ≡ Ok (length (rows_of old new sheet)) →
       out' ≡ rows_of old new sheet ++ drop (length (rows_of old new sheet)) out → Compares old new sheet out r out'
 
-pub record Readings (old new : List ℕ → Answer) (sheet out : List ℕ) (r : Result ℕ Refusal) (out' : List ℕ) : Type 0 where
+-- the length that is returned, of the rows or of a sheet that is turned back
+abbrev pub rows_length : Result ℕ TurnedBack → ℕ
+rows_length (Ok n) = n
+rows_length (Err t) = t.length
+
+pub record Readings (old new : List ℕ → Answer) (sheet out : List ℕ) (r : Result ℕ TurnedBack) (out' : List ℕ) : Type 0 where
   pub run : Compares old new sheet out r out'
   -- the rows have room in the buffer
-  pub fits : IfOk r (λ n. n ≤ length out')
+  pub fits : rows_length r ≤ length out'
   -- each answer is right by its reading
   pub old_right : (l : List ℕ) → RightLine ToleranceFirst l (old l)
   pub new_right : (l : List ℕ) → RightLine PressureFirst l (new l)

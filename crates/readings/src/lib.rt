@@ -5,15 +5,15 @@ ghost use Rattle.std.specs.Prelude.{◌≡◌, Result, Some, List, ℕ, ◌≤�
 ghost use Rattle.text.specs.Slices.{put};
 ghost use Rattle.text.specs.Pages.{Fits, Puts};
 ghost use Rattle.pressure.specs.declared.Order.TheVariants.{ToleranceFirst, PressureFirst};
-ghost use Rattle.answer.specs.declared.Refusal.{Refusal};
 ghost use Rattle.reading.specs.Answering.{answer_to};
+ghost use Rattle.outcome.specs.declared.TurnedBack.{TurnedBack};
 ghost use Rattle.readings.specs.Readings.{change_of, row, Readings};
 ghost use Rattle.readings.specs.Running.{differences, comparison};
 
-use answer::{Answer, Refusal, Verdict};
+use answer::{Answer, Verdict};
 use entry::put_word;
 use lines::Lines;
-use outcome::check;
+use outcome::{TurnedBack, check};
 use pressure::Order;
 use sheet::answer;
 use text::Page;
@@ -79,9 +79,9 @@ fn put_rows(sheet: &[u8], out: &mut [u8]) -> usize
 }
 
 // The whole run: writes the rows of the sheet to the start of `out` and answers how many bytes they have, or turns the sheet back and leaves `out` as it is.
-pub fn run(sheet: &[u8], out: &mut [u8]) -> Result<usize, Refusal>
+pub fn run(sheet: &[u8], out: &mut [u8]) -> Result<usize, TurnedBack>
     ensures readings { Readings (answer_to ToleranceFirst) (answer_to PressureFirst) sheet.now out.old result out.new }
-    ensures fact { ◌≡◌ {A = Result ℕ Refusal × List ℕ} (result, out.new) (comparison sheet.now out.old) }
+    ensures fact { ◌≡◌ {A = Result ℕ TurnedBack × List ℕ} (result, out.new) (comparison sheet.now out.old) }
 {
     check(sheet, out.len())?;
     Ok(put_rows(sheet, out))

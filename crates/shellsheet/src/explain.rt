@@ -235,6 +235,6 @@ pub(crate) fn say_answers(rt: &impl Print, sheet: &[u8]) -> io::Result<()> {
             say_lines(rt, sheet)?;
             say_total(rt, listed.counts)
         }
-        Err(r) => say_batch(rt, r),
+        Err(turned) => say_batch(rt, turned.refusal),
     }
 }

@@ -4,7 +4,7 @@
 
 ghost use Rattle.std.specs.Prelude.{List, ℕ, Result, IfOk, ◌≤◌, length};
 ghost use Rattle.std.specs.Borrow.{MutBor};
-ghost use Rattle.answer.specs.declared.Refusal.{Refusal};
+ghost use Rattle.outcome.specs.declared.TurnedBack.{TurnedBack};
 
 mod checks;
 mod explain;
@@ -19,7 +19,7 @@ use answer::Refusal;
 use explain::say_answers;
 use help::{say_help, say_version};
 use options::{NAME_ROOM, Named, Options, Say, Task, argument, argument_count};
-use outcome::ROOM;
+use outcome::{ROOM, TurnedBack};
 use std::io::{Error, ErrorKind, Read};
 use std::{fs, io};
 use stream::{fail, read_sheet, write_error};
@@ -31,17 +31,17 @@ fn say_refusal(rt: &impl Print, r: Refusal) -> io::Result<()> {
 }
 
 // Writes what a run puts into its buffer, or why it turns the sheet back. `say_answers` has a buffer and a run too, but it wants the counts, and no byte of what is put.
-fn say_run<F: FnOnce(&mut [u8]) -> Result<usize, Refusal>>(
+fn say_run<F: FnOnce(&mut [u8]) -> Result<usize, TurnedBack>>(
     rt: &impl Print,
     run: F,
 ) -> io::Result<()>
     requires callable { F.IsAlwaysCallable run }
-    requires bound { (x : MutBor (List ℕ)) (r : Result ℕ Refusal) (y : MutBor (List ℕ)) → F.post run x r y → IfOk r (λ n. n ≤ length y.now) }
+    requires bound { (x : MutBor (List ℕ)) (r : Result ℕ TurnedBack) (y : MutBor (List ℕ)) → F.post run x r y → IfOk r (λ n. n ≤ length y.now) }
 {
     let mut out = [0u8; ROOM];
     match run(&mut out) {
         Ok(length) => rt.write_all(&out[..length]),
-        Err(r) => say_refusal(rt, r),
+        Err(turned) => say_refusal(rt, turned.refusal),
     }
 }
 

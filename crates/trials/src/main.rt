@@ -40,8 +40,8 @@ fn list(rt: &HostRuntime, file: &mut File) {
     let n = read_full(file, &mut sheet);
     match sheet::run(&sheet[..n], &mut listing) {
         Ok(listed) => put(rt, &listing[..listed.length]),
-        Err(refusal) => {
-            let number = u64::from(refusal);
+        Err(turned) => {
+            let number = u64::from(turned.refusal);
             let _ = println!(rt; "(batch refused {number})");
         }
     }
