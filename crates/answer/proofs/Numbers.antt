@@ -1,7 +1,7 @@
 -- The number of an answer tells the answer: the load case, the verdict, L and U, or the refusal. Assumes nothing.
 use mathlib.Core.Path.{◌≡◌, refl, sym, ap, ◌∙◌}
-use Rattle.std.specs.Prelude.{Ok, Err}
-use Prim.Native.Nat.{ℕ, ◌+◌, ◌-◌, ◌*◌, ◌≤◌}
+use Rattle.std.specs.Prelude.{Result, Ok, Err}
+use Prim.Native.Nat.{ℕ, ◌+◌, ◌-◌, ◌*◌, ◌≤◌, ◌<◌}
 use lib.Dec.{lit≤}
 use lib.ListN.{get_or}
 use mathlib.Core.List.{[], ◌∷◌}
@@ -11,8 +11,8 @@ use Rattle.answer.specs.declared.Verdict.TheVariants.{Holds, Fails, Open}
 use Rattle.answer.specs.declared.Judgement.{Judgement}
 use Rattle.answer.specs.declared.Refusal.{Refusal}
 use Rattle.answer.specs.declared.Refusal.TheVariants.{SheetBytes, SheetLines, ListingRoom, LineBytes, Form, Range, Edges, WallRatio, LengthRatio, Imperfection, Shortfall, LineRoom, Wind, PlateList, Force, Pressure}
-use Rattle.answer.specs.Answers.{Answer, verdict_number, refusal_number, judgement_number, answer_number}
-use Rattle.answer.specs.Answering.{Bounded}
+use Rattle.answer.specs.Answers.{Answer, verdict_number, refusal_number, judgement_number, answer_number, number_by, in_table}
+use Rattle.answer.specs.Answering.{Bounded, BoundedBy}
 
 verdict_some : (v : Verdict) → (1 ≤ verdict_number v) × (verdict_number v ≤ 3)
 verdict_some Holds = (omega arith, omega arith)
@@ -48,6 +48,18 @@ judgement_tells i j (l, h, s, m) (l', h', s', m') e =
     let verdict = verdict_same i.verdict j.verdict v in
     λ n. record { verdict = verdict n; low = low n; high = high n; case = same n }
 
+-- a refusal is below the number of every judgement
+abbrev pub SmallRefusal : Result Judgement ℕ → Type 0
+SmallRefusal (Err n) = n < 10000000000
+SmallRefusal (Ok j) = Unit {0}
+
+-- equal numbers are of equal answers, whatever numbers stand for refusals
+pub number_by_tells : (a b : Result Judgement ℕ) → BoundedBy a → BoundedBy b → SmallRefusal a → SmallRefusal b → number_by a ≡ number_by b → a ≡ b
+number_by_tells (Err m) (Err n) _ _ _ _ e = ap Err e
+number_by_tells (Err m) (Ok j) _ _ small _ e = absurd (omega (arith, above j))
+number_by_tells (Ok i) (Err n) _ _ _ small e = absurd (omega (arith, above i))
+number_by_tells (Ok i) (Ok j) p q _ _ e = ap Ok (judgement_tells i j p q e)
+
 -- the table read back
 abbrev refusal_at : ℕ → Refusal
 refusal_at n = get_or (SheetBytes ∷ SheetLines ∷ ListingRoom ∷ LineBytes ∷ Form ∷ Range ∷ Edges ∷ WallRatio ∷ LengthRatio ∷ Imperfection ∷ Shortfall ∷ LineRoom ∷ Wind ∷ PlateList ∷ Force ∷ Pressure ∷ []) (n - 1) Pressure
@@ -78,9 +90,27 @@ refusal_same r s e = sym (tabled r).0 ∙ ap refusal_at e ∙ (tabled s).0
 pub refusal_range : (r : Refusal) → (1 ≤ refusal_number r) × (refusal_number r ≤ 16)
 refusal_range r = (tabled r).1
 
+-- an answer by the numbers of refusals, and back
+abbrev from_table : Result Judgement ℕ → Answer
+from_table (Ok j) = Ok j
+from_table (Err n) = Err (refusal_at n)
+
+table_back : (a : Answer) → from_table (in_table a) ≡ a
+table_back (Ok j) = refl
+table_back (Err r) = ap Err (tabled r).0
+
+table_bounded : (a : Answer) → Bounded a → BoundedBy (in_table a) × SmallRefusal (in_table a)
+table_bounded (Ok j) p = (p, tt)
+table_bounded (Err r) p = (tt, omega (arith, refusal_range r))
+
+pub table_number : (a : Answer) → answer_number a ≡ number_by (in_table a)
+table_number (Ok j) = refl
+table_number (Err r) = refl
+
 -- equal numbers are of equal answers
 pub number_tells : (a b : Answer) → Bounded a → Bounded b → answer_number a ≡ answer_number b → a ≡ b
-number_tells (Err r) (Err s) _ _ e = ap Err (refusal_same r s e)
-number_tells (Err r) (Ok j) _ _ e = absurd (omega (arith, refusal_range r, above j))
-number_tells (Ok i) (Err s) _ _ e = absurd (omega (arith, refusal_range s, above i))
-number_tells (Ok i) (Ok j) p q e = ap Ok (judgement_tells i j p q e)
+number_tells a b p q e =
+    let (pa, small_a) = table_bounded a p in
+    let (qb, small_b) = table_bounded b q in
+    let same = number_by_tells (in_table a) (in_table b) pa qb small_a small_b (sym (table_number a) ∙ e ∙ table_number b) in
+    sym (table_back a) ∙ ap from_table same ∙ table_back b

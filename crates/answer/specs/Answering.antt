@@ -29,3 +29,8 @@ judgement_of L U = record { verdict = verdict_of L U; low = L; high = U; case = 
 abbrev pub Bounded : Answer → Type 0
 Bounded (Err r) = Unit {0}
 Bounded (Ok j) = (j.low ≤ 20000) × (j.high ≤ 20000) × (1 ≤ j.case) × (j.case ≤ 8)
+
+-- the same with the refusal given by a number
+abbrev pub BoundedBy : Result Judgement ℕ → Type 0
+BoundedBy (Err n) = Unit {0}
+BoundedBy (Ok j) = Bounded (Ok j)

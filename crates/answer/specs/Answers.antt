@@ -48,3 +48,13 @@ judgement_number j = 100000000000 * (j.case - 1) + 10000000000 * verdict_number 
 abbrev pub answer_number : Answer → ℕ
 answer_number (Ok j) = judgement_number j
 answer_number (Err r) = refusal_number r
+
+-- the same with the refusal given by a number, whatever it is
+abbrev pub number_by : Result Judgement ℕ → ℕ
+number_by (Ok j) = judgement_number j
+number_by (Err n) = n
+
+-- an answer with the refusal's number in place of the refusal
+abbrev pub in_table : Answer → Result Judgement ℕ
+in_table (Ok j) = Ok j
+in_table (Err r) = Err (refusal_number r)

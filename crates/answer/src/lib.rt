@@ -2,9 +2,9 @@
 #![tactic(auto)]
 
 ghost use Rattle.std.specs.Prelude.{◌≡◌, ◌+◌, ◌*◌, ◌≤◌};
-ghost use Rattle.answer.specs.Answers.{verdict_number, refusal_number, judgement_number, answer_number};
+ghost use Rattle.answer.specs.Answers.{verdict_number, refusal_number, judgement_number, answer_number, number_by};
 ghost use Rattle.answer.specs.Governing.{worse_of};
-ghost use Rattle.answer.specs.Answering.{judgement_of, of_case, Bounded};
+ghost use Rattle.answer.specs.Answering.{judgement_of, of_case, Bounded, BoundedBy};
 
 // What is said of a shell, from the best to the worst: so they are compared.
 #[derive(Clone, Copy, PartialEq, Eq, PartialOrd, Ord)]
@@ -139,8 +139,16 @@ pub fn number(answer: Answer) -> u64
     requires { Bounded answer }
     ensures { result ≡ answer_number answer }
 {
-    match answer {
+    number_by(answer.map_err(u64::from))
+}
+
+// The same of an answer whose refusal is given by its number, which may be any.
+pub fn number_by(numbered: Result<Judgement, u64>) -> u64
+    requires { BoundedBy numbered }
+    ensures { result ≡ number_by numbered }
+{
+    match numbered {
         Ok(judgement) => judgement.number(),
-        Err(refusal) => u64::from(refusal),
+        Err(n) => n,
     }
 }

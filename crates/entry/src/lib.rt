@@ -2,9 +2,9 @@
 #![tactic(auto)]
 
 ghost use Rattle.text.specs.Pages.{Fits, Puts};
-ghost use Rattle.listing.specs.Listing.{verdict_word, said, entry, ended};
+ghost use Rattle.listing.specs.Listing.{verdict_word, said_by, entry, entry_by, ended};
 
-use answer::{Answer, Verdict};
+use answer::{Answer, Judgement, Verdict};
 use text::Page;
 
 // Puts the word of a verdict.
@@ -20,31 +20,39 @@ pub fn put_word(page: &mut Page<'_>, v: Verdict)
 }
 
 // Puts what follows the number in the line for an answer.
-fn put_said(page: &mut Page<'_>, a: Answer)
-    requires { Fits page.old (said a) }
-    ensures { Puts page.old (said a) page.new }
+fn put_said(page: &mut Page<'_>, numbered: Result<Judgement, u64>)
+    requires { Fits page.old (said_by numbered) }
+    ensures { Puts page.old (said_by numbered) page.new }
 {
-    match a {
+    match numbered {
         Ok(judgement) => {
             page.put(b" ");
             put_word(page, judgement.verdict);
         }
-        Err(refusal) => {
+        Err(n) => {
             page.put(b" refused ");
-            page.number(u64::from(refusal));
+            page.number(n);
         }
     }
     page.put(b")");
 }
 
 // Puts the line for the answer to line k.
-#[tactic(auto, using(listing::proofs::Lengths::entry_length))]
 pub fn put_entry(page: &mut Page<'_>, k: u64, a: Answer)
     requires { Fits page.old (ended (entry k a)) }
     ensures { Puts page.old (ended (entry k a)) page.new }
 {
+    put_numbered(page, k, a.map_err(u64::from));
+}
+
+// The same of an answer whose refusal is given by its number, which may be any.
+#[tactic(auto, using(listing::proofs::Lengths::entry_by_length))]
+pub fn put_numbered(page: &mut Page<'_>, k: u64, numbered: Result<Judgement, u64>)
+    requires { Fits page.old (ended (entry_by k numbered)) }
+    ensures { Puts page.old (ended (entry_by k numbered)) page.new }
+{
     page.put(b"(");
     page.number(k);
-    put_said(page, a);
+    put_said(page, numbered);
     page.put(b"\n");
 }

@@ -1,4 +1,5 @@
 pub mod Lengths
+pub mod Numbered
 pub mod Totals
 pub mod Turns
 pub mod Lines

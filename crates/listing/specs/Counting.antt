@@ -1,7 +1,8 @@
 -- How the program counts, one answer after the other. Nobody has to believe this: `here_counts` (proofs/Turns.antt) has that it ends in `counts`.
-use Rattle.std.specs.Prelude.{◌+◌}
+use Rattle.std.specs.Prelude.{ℕ, ◌+◌, Result, Ok, Err}
 use Rattle.algebra.specs.Choice.{pick}
 use Rattle.answer.specs.Answers.{Answer}
+use Rattle.answer.specs.declared.Judgement.{Judgement}
 use Rattle.answer.specs.declared.Verdict.TheVariants.{Holds, Fails, Open}
 use Rattle.listing.specs.declared.Counts.{Counts}
 use Rattle.listing.specs.Listing.{says, is_refused}
@@ -16,3 +17,8 @@ with_answer c a =
       opens = c.opens + pick (says Open a) 1 0;
       refused = c.refused + pick (is_refused a) 1 0;
     }
+
+-- the same with the refusal given by a number, whatever it is
+abbrev pub with_numbered : Counts → Result Judgement ℕ → Counts
+with_numbered c (Ok j) = with_answer c (Ok j)
+with_numbered c (Err n) = record { lines = c.lines + 1; holds = c.holds; fails = c.fails; opens = c.opens; refused = c.refused + 1 }

@@ -1,9 +1,10 @@
 -- SCOPE 8, 9.8 and 9.9: the listing of answers, a line for each and the total line.
-use Rattle.std.specs.Prelude.{ℕ, ◌+◌, Bool, true, false, List, [], ◌∷◌, ◌++◌, length, eqb, Ok, Err}
+use Rattle.std.specs.Prelude.{ℕ, ◌+◌, Bool, true, false, List, [], ◌∷◌, ◌++◌, length, eqb, Result, Ok, Err}
 use Rattle.text.specs.Bytes.{ascii, decimal, spaced}
 use Rattle.algebra.specs.Choice.{pick}
 use Rattle.answer.specs.declared.Verdict.{Verdict}
 use Rattle.answer.specs.declared.Verdict.TheVariants.{Holds, Fails, Open}
+use Rattle.answer.specs.declared.Judgement.{Judgement}
 use Rattle.answer.specs.Answers.{Answer, verdict_number, refusal_number}
 use Rattle.listing.specs.declared.Counts.{Counts}
 
@@ -23,6 +24,14 @@ said (Err r) = ascii " refused " ++ decimal (refusal_number r) ++ ascii ")"
 -- SCOPE 8.1: the line for the answer a to line k
 unfoldable pub entry : ℕ → Answer → List ℕ
 entry k a = ascii "(" ++ decimal k ++ said a
+
+-- the same with the refusal given by a number, whatever it is
+abbrev pub said_by : Result Judgement ℕ → List ℕ
+said_by (Ok j) = said (Ok j)
+said_by (Err n) = ascii " refused " ++ decimal n ++ ascii ")"
+
+unfoldable pub entry_by : ℕ → Result Judgement ℕ → List ℕ
+entry_by k a = ascii "(" ++ decimal k ++ said_by a
 
 -- the lines for answers, counted from k
 unfoldable pub entries : ℕ → List Answer → List (List ℕ)

@@ -3,9 +3,9 @@
 
 ghost use Rattle.std.specs.Prelude.{◌≡◌, ◌<◌};
 ghost use Rattle.listing.specs.Listing.{no_counts};
-ghost use Rattle.listing.specs.Counting.{with_answer};
+ghost use Rattle.listing.specs.Counting.{with_answer, with_numbered};
 
-use answer::{Answer, Verdict};
+use answer::{Answer, Judgement, Verdict};
 
 // The five counts of a listing: of lines, and of the answers of each kind.
 #[derive(Clone, Copy, Default)]
@@ -26,12 +26,20 @@ impl Counts {
     }
 
     // The counts with one more answer.
-    pub fn with(mut self, a: Answer) -> Self
+    pub fn with(self, a: Answer) -> Self
         requires { (self.lines < 65536) × (self.holds < 65536) × (self.fails < 65536) × (self.opens < 65536) × (self.refused < 65536) }
         ensures { result ≡ with_answer self a }
     {
+        self.with_numbered(a.map_err(u64::from))
+    }
+
+    // The same with an answer whose refusal is given by its number, which may be any.
+    pub fn with_numbered(mut self, numbered: Result<Judgement, u64>) -> Self
+        requires { (self.lines < 65536) × (self.holds < 65536) × (self.fails < 65536) × (self.opens < 65536) × (self.refused < 65536) }
+        ensures { result ≡ with_numbered self numbered }
+    {
         self.lines += 1;
-        match a {
+        match numbered {
             Ok(j) => match j.verdict {
                 Verdict::Holds => self.holds += 1,
                 Verdict::Fails => self.fails += 1,

@@ -66,3 +66,8 @@ abbrev pub PlaceBounded : Chosen → Type 0
 PlaceBounded (Err r) = Unit {0}
 PlaceBounded (Ok None) = Unit {0}
 PlaceBounded (Ok (Some k)) = k ≤ 64
+
+-- the same with the refusal given by a number
+abbrev pub PlaceBoundedBy : Result (Option ℕ) ℕ → Type 0
+PlaceBoundedBy (Err n) = Unit {0}
+PlaceBoundedBy (Ok o) = PlaceBounded (Ok o)

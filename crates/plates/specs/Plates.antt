@@ -119,6 +119,12 @@ chosen_number (Err r) = refusal_number r
 chosen_number (Ok None) = 100
 chosen_number (Ok (Some k)) = 100 + k
 
+-- the same with the refusal given by a number, whatever it is
+abbrev pub chosen_by : Result (Option ℕ) ℕ → ℕ
+chosen_by (Err n) = n
+chosen_by (Ok None) = 100
+chosen_by (Ok (Some k)) = 100 + k
+
 -- n is the number of a choice as it is laid down
 pub record NumberOfChoice (rule : Shell → Forces → ℕ → Judgement) (s : Shell) (f : Forces) (ps : List ℕ) (n : ℕ) : Type 0 where
   pub choice : Chosen

@@ -5,8 +5,8 @@
 ghost use Rattle.std.specs.Prelude.{◌≡◌, true, ◌*◌, ◌≤◌, position};
 ghost use Rattle.answer.specs.Answering.{refusal_by};
 ghost use Rattle.record.specs.Limits.{cylinder_of};
-ghost use Rattle.plates.specs.Plates.{wall_of, rising, list_allowed, forces_up_to, choice_checks, RightChoice, chosen_number};
-ghost use Rattle.plates.specs.Choosing.{unloaded as unloaded_of, refusal_of, early, fits, plate_judgement, plate_holds, choosing, PlaceBounded};
+ghost use Rattle.plates.specs.Plates.{wall_of, rising, list_allowed, forces_up_to, choice_checks, RightChoice, chosen_number, chosen_by};
+ghost use Rattle.plates.specs.Choosing.{unloaded as unloaded_of, refusal_of, early, fits, plate_judgement, plate_holds, choosing, PlaceBounded, PlaceBoundedBy};
 
 use answer::{Judgement, Refusal, Verdict};
 use bounds::Load;
@@ -213,9 +213,17 @@ pub fn number(chosen: Chosen) -> u64
     requires { PlaceBounded chosen }
     ensures { result ≡ chosen_number chosen }
 {
-    match chosen {
+    number_by(chosen.map_err(u64::from))
+}
+
+// The same of a choice whose refusal is given by its number, which may be any.
+pub fn number_by(numbered: Result<Option<usize>, u64>) -> u64
+    requires { PlaceBoundedBy numbered }
+    ensures { result ≡ chosen_by numbered }
+{
+    match numbered {
         Ok(Some(place)) => 100 + place as u64,
         Ok(None) => 100,
-        Err(refusal) => u64::from(refusal),
+        Err(n) => n,
     }
 }

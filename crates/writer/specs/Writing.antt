@@ -43,6 +43,11 @@ abbrev pub written_number : Written → ℕ
 written_number (Ok n) = n
 written_number (Err r) = refusal_number r
 
+-- the same with the refusal given by a number, whatever it is
+abbrev pub written_by : Result ℕ ℕ → ℕ
+written_by (Ok n) = n
+written_by (Err m) = m
+
 -- an answer and a buffer, with the answer's number
 abbrev pub numbered : Written × List ℕ → ℕ × List ℕ
 numbered p = (written_number p.0, p.1)

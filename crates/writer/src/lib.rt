@@ -6,7 +6,7 @@ ghost use Rattle.text.specs.Pages.{Fits, Puts};
 ghost use Rattle.text.specs.Slices.{put};
 ghost use Rattle.cases.specs.Answering.{load_cases};
 ghost use Rattle.reading.specs.Text.{wall_text, ring_text, groups_text, inner_text};
-ghost use Rattle.writer.specs.Writing.{Written, line_of, Writes, written_number};
+ghost use Rattle.writer.specs.Writing.{Written, line_of, Writes, written_number, written_by};
 ghost use Rattle.writer.specs.Writer.{spaced_group, pressure_text, writing};
 
 use answer::Refusal;
@@ -119,8 +119,15 @@ pub fn write(out: &mut [u8], c: &Cases) -> Result<usize, Refusal>
 pub fn number(written: Result<usize, Refusal>) -> u64
     ensures { result ≡ written_number written }
 {
-    match written {
+    number_by(written.map_err(u64::from))
+}
+
+// The same of an answer whose refusal is given by its number, which may be any.
+pub fn number_by(numbered: Result<usize, u64>) -> u64
+    ensures { result ≡ written_by numbered }
+{
+    match numbered {
         Ok(n) => n as u64,
-        Err(refusal) => u64::from(refusal),
+        Err(m) => m,
     }
 }
