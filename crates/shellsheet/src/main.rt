@@ -11,6 +11,7 @@ mod explain;
 mod form;
 mod help;
 mod options;
+mod output;
 mod say;
 mod scan;
 mod stream;
@@ -20,6 +21,7 @@ use explain::say_answers;
 use help::{say_help, say_version};
 use options::{NAME_ROOM, Named, Options, Say, Task, argument, argument_count};
 use outcome::{ROOM, TurnedBack};
+use output::Output;
 use std::io::{Error, ErrorKind, Read};
 use std::{fs, io};
 use stream::{fail, read_sheet, write_error};
@@ -74,6 +76,7 @@ fn open(rt: &HostRuntime, name: &[u8]) -> io::Result<fs::File> {
 #[derive(Clone, Copy)]
 struct Lister<'a> {
     rt: &'a HostRuntime,
+    out: Output<'a>,
     named: Named,
     say: Say,
 }
@@ -84,18 +87,18 @@ impl<'a> Lister<'a> {
         if self.named.sheets < 2 {
             return Ok(());
         }
-        self.rt.write_all(b"==> ")?;
-        self.rt.write_all(name)?;
-        self.rt.write_all(b" <==\n")
+        self.out.write_all(b"==> ")?;
+        self.out.write_all(name)?;
+        self.out.write_all(b" <==\n")
     }
 
     // Writes what there is to say of a sheet.
     fn say_sheet(self, name: &[u8], sheet: &[u8]) -> io::Result<()> {
         self.say_heading(name)?;
         match self.say {
-            Say::Answers => say_answers(self.rt, sheet),
-            Say::Readings => say_readings(self.rt, sheet),
-            Say::Listing => say_listing(self.rt, sheet),
+            Say::Answers => say_answers(&self.out, sheet),
+            Say::Readings => say_readings(&self.out, sheet),
+            Say::Listing => say_listing(&self.out, sheet),
         }
     }
 
@@ -155,12 +158,19 @@ impl<'a> Lister<'a> {
 
 // Does what the arguments ask for.
 fn run(rt: &HostRuntime, options: Options) -> io::Result<()> {
+    let out = Output(rt);
     match options.task {
-        Task::Help => say_help(rt),
-        Task::Version => say_version(rt),
+        Task::Help => say_help(&out),
+        Task::Version => say_version(&out),
         Task::Sheets(say) => {
             let named = options.named;
-            Lister { rt, named, say }.list_all()
+            Lister {
+                rt,
+                out,
+                named,
+                say,
+            }
+            .list_all()
         }
     }
 }
@@ -170,11 +180,6 @@ fn main(rt: HostRuntime) {
         return;
     };
     if let Err(why) = run(&rt, options) {
-        let why = match why.kind() {
-            // in the words that stand for it, and not in std's for a buffer
-            ErrorKind::WriteZero => Error::from(ErrorKind::WriteZero),
-            _ => why,
-        };
         fail(&rt, b"shellsheet: standard output", why);
     }
 }

@@ -4,11 +4,11 @@ ghost use Rattle.std.specs.Prelude.{◌≤◌, length, IfOk};
 use std::io;
 use std::io::{Error, ErrorKind, Read};
 
-// More reads than 65,536 bytes take: the others are for those that a signal interrupts.
-const TURNS: u64 = 1000000000;
+// More reads than 65,536 bytes take: the others are for those that a signal interrupts. So many times a write is tried.
+pub(crate) const TURNS: u64 = 1000000000;
 
 // The number of the error of a call that a signal interrupts, EINTR: of it the system's words are said, of its kind alone std's own.
-const INTERRUPTED: i32 = 4;
+pub(crate) const INTERRUPTED: i32 = 4;
 
 // Reads until the input ends or `buf` is full, and answers how many bytes were put at its start.
 // std's read_to_end takes memory, which is left to errors (main.rt), and ends at no bound. A read that a signal interrupts puts no byte, so the loop counts its turns, and not `done`.
