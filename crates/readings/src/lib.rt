@@ -13,6 +13,7 @@ ghost use Rattle.readings.specs.Running.{differences, comparison};
 use answer::{Answer, Verdict};
 use entry::put_word;
 use lines::Lines;
+use listing::Counts;
 use outcome::{TurnedBack, check};
 use pressure::Order;
 use sheet::answer;
@@ -83,6 +84,12 @@ pub fn run(sheet: &[u8], out: &mut [u8]) -> Result<usize, TurnedBack>
     ensures readings { Readings (answer_to ToleranceFirst) (answer_to PressureFirst) sheet.now out.old result out.new }
     ensures fact { ◌≡◌ {A = Result ℕ TurnedBack × List ℕ} (result, out.new) (comparison sheet.now out.old) }
 {
-    check(sheet, out.len())?;
-    Ok(put_rows(sheet, out))
+    match check(sheet, out.len()) {
+        Ok(()) => Ok(put_rows(sheet, out)),
+        Err(refusal) => Err(TurnedBack {
+            refusal,
+            counts: Counts::none(),
+            length: 0,
+        }),
+    }
 }

@@ -63,13 +63,15 @@ fn put_group(page: &mut Page<'_>, g: Group)
     page.put(b")");
 }
 
-// The groups, one after the other.
+// The groups, one after the other. By index, so that where it begins is a number that stands here.
 fn put_groups(page: &mut Page<'_>, groups: &[Group])
     requires { Fits page.old (groups_text groups.now) }
     ensures { Puts page.old (groups_text groups.now) page.new }
 {
-    for group in groups {
-        put_group(page, *group);
+    let mut i = 0;
+    while i < groups.len() {
+        put_group(page, groups[i]);
+        i += 1;
     }
 }
 

@@ -1,25 +1,20 @@
 -- `readings::run` meets its contract. Assumes nothing.
-use mathlib.Core.Path.{ap, ◌∙◌}
-use Prim.Native.Nat.{ℕ}
-use Rattle.std.specs.Prelude.{Result, Err}
-use Rattle.std.proofs.lemmas.Result.{err_from_is_err_and}
-use Rattle.outcome.specs.declared.TurnedBack.{TurnedBack}
+use mathlib.Core.Path.{sym, ◌∙◌}
 use Rattle.readings.proofs.Laws.{run_turned, run_short, run_room, run_compared, readings_of}
 use Rattle.readings.proofs.run.Goals as goal
-
-pub returns-in_err-check : goal.returns-in_err-check
-returns-in_err-check c =
-    let a = c.args in
-    let p = err_from_is_err_and c.from_residual.result c.from_residual.ensures.1 in
-    let e = ap (λ (q : Result ℕ TurnedBack). (q, a.out.now)) (p.1 ∙ ap Err p.2) ∙ run_turned a.sheet.now a.out.now _ c.in_err-check.ensures in
-    record { readings = readings_of _ _ _ _ e; fact = e }
 
 pub put_rows-requires : goal.put_rows-requires
 put_rows-requires c =
     let a = c.args in
-    (run_short a.sheet.now a.out.now c.in_ok-check.ensures, run_room a.sheet.now a.out.now c.in_ok-check.ensures)
+    let is = sym c.in-Ok.is ∙ c.check.ensures in
+    (run_short a.sheet.now a.out.now is, run_room a.sheet.now a.out.now is)
 
-pub returns : goal.returns
-returns c =
-    let e = run_compared _ _ c.in_ok-check.ensures _ _ c.put_rows.ensures.value c.put_rows.ensures.out_after in
+pub returns-in-Ok : goal.returns-in-Ok
+returns-in-Ok c =
+    let e = run_compared _ _ (sym c.in-Ok.is ∙ c.check.ensures) _ _ c.put_rows.ensures.value c.put_rows.ensures.out_after in
     record { readings = readings_of _ _ _ _ e; fact = e }
+
+pub returns-in-Err : goal.returns-in-Err
+returns-in-Err c =
+    let e = run_turned _ _ _ (sym c.in-Err.is ∙ c.check.ensures) in
+    rw c.none.ensures (record { readings = readings_of _ _ _ _ e; fact = e })

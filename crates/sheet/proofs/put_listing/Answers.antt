@@ -13,7 +13,7 @@ use Rattle.outcome.proofs.Laws.{left, left_next}
 use Rattle.sheet.proofs.put_listing.Goals as goal
 
 pub loop-line-init : goal.loop-line-init
-loop-line-init c = here_first _ _ _ _ (ap left c.into_iter-line-iterator.ensures.into_iter_gives ∙ ap (map ruled) c.of-line-items.ensures) c.none-counts.ensures
+loop-line-init c = here_first _ _ _ _ (ap left c.into_iter-line-iterator.ensures.into_iter_gives ∙ ap (map ruled) (search rules)) c.none-counts.ensures
 
 pub with-counts-requires : goal.with-counts-requires
 with-counts-requires c =

@@ -36,14 +36,14 @@ returns-in_err-check c =
     let out = c.args.out.now in
     let some = counted l (omega arith) (sym c.is_empty.ensures.value ∙ c.if-is_empty.false) in
     let refusal = err_from_is_err_and c.from_residual.result c.from_residual.ensures.1 in
-    let e = writing_refused l out c.if-out-lt-ROOM_LEAST.false some _ (ap Err refusal.2 ∙ c.in_err-check.ensures) in
+    let e = writing_refused l out c.if-out-lt-ROOM_LEAST.false some _ (ap Err refusal.2 ∙ search rules) in
     rw refusal.1 (record { writes = laid l out _ _ e; fact = e })
 
 pub put_line-requires : goal.put_line-requires
 put_line-requires c =
     let l = load_cases c.args.c.now in
     let some = counted l (omega arith) (sym c.is_empty.ensures.value ∙ c.if-is_empty.false) in
-    omega (arith, writing_fits l c.args.out.now c.if-out-lt-ROOM_LEAST.false some c.in_ok-check.ensures, c.new-page.ensures.at, ap length c.new-page.ensures.out)
+    omega (arith, writing_fits l c.args.out.now c.if-out-lt-ROOM_LEAST.false some (search rules), c.new-page.ensures.at, ap length c.new-page.ensures.out)
 
 pub returns : goal.returns
 returns c =
@@ -51,5 +51,5 @@ returns c =
     let out = c.args.out.now in
     let some = counted l (omega arith) (sym c.is_empty.ensures.value ∙ c.if-is_empty.false) in
     let bytes : c.put_line.new.page.out.now ≡ put out 0 (line_of l) = rw (← c.new-page.ensures.out, ← c.new-page.ensures.at) c.put_line.ensures.out in
-    let e = writing_put l out c.if-out-lt-ROOM_LEAST.false some c.in_ok-check.ensures _ _ (omega (arith, c.length.ensures, c.put_line.ensures.at, c.new-page.ensures.at)) (search rules) in
+    let e = writing_put l out c.if-out-lt-ROOM_LEAST.false some (search rules) _ _ (omega (arith, c.length.ensures, c.put_line.ensures.at, c.new-page.ensures.at)) (search rules) in
     record { writes = laid l out _ _ e; fact = e }

@@ -7,8 +7,8 @@ use Rattle.text.proofs.Page.+number.Goals.{then-n-ge10, else-n-ge10}
 pub number-requires : goal.number-requires
 number-requires t c = (omega arith, omega (arith, decimal_next c.args.n c.if-n-ge10.true))
 
-pub byte-requires : goal.byte-requires
-byte-requires t c =
+pub put-requires : goal.put-requires
+put-requires t c =
     elim c.if-n-ge10.branch [
       | then-n-ge10 w ↦ rw w.self-is (omega (arith, decimal_next c.args.n w.if-n-ge10.true))
       | else-n-ge10 w ↦ rw w.self-is (omega (arith, decimal_one c.args.n w.if-n-ge10.false))
@@ -17,6 +17,6 @@ byte-requires t c =
 pub returns : goal.returns
 returns t c =
     elim c.if-n-ge10.branch [
-      | then-n-ge10 w ↦ puts_more c.args.n w.if-n-ge10.true (rw (sym w.self-is) at w.number.ensures) c.byte.ensures
-      | else-n-ge10 w ↦ puts_digit c.args.n w.if-n-ge10.false (rw w.self-is at c.byte.ensures)
+      | then-n-ge10 w ↦ puts_more c.args.n w.if-n-ge10.true (rw (sym w.self-is) at w.number.ensures) c.put.ensures
+      | else-n-ge10 w ↦ puts_digit c.args.n w.if-n-ge10.false (rw w.self-is at c.put.ensures)
     ]
