@@ -63,7 +63,7 @@ fn put_group(page: &mut Page<'_>, g: Group)
     page.put(b")");
 }
 
-// The groups, one after the other. By index, so that where it begins is a number that stands here.
+// The groups, one after the other. By index, so that where it begins and its step are numbers that stand here.
 fn put_groups(page: &mut Page<'_>, groups: &[Group])
     requires { Fits page.old (groups_text groups.now) }
     ensures { Puts page.old (groups_text groups.now) page.new }

@@ -1,6 +1,7 @@
 use native.Mathlib.Omega.{arith}
 use mathlib.Core.Path.{◌≡◌, ap, ◌∙◌}
 use Rattle.std.proofs.Common.{rules}
+use Rattle.std.proofs.lemmas.List.{take_all}
 use mathlib.Core.List.{map}
 use lib.ListN.{length-map}
 use Rattle.text.specs.Bytes.{lines}
@@ -13,7 +14,7 @@ use Rattle.outcome.proofs.Laws.{left, left_next}
 use Rattle.sheet.proofs.put_listing.Goals as goal
 
 pub loop-line-init : goal.loop-line-init
-loop-line-init c = here_first _ _ _ _ (ap left c.into_iter-line-iterator.ensures.into_iter_gives ∙ ap (map ruled) (search rules)) c.none-counts.ensures
+loop-line-init c = here_first _ _ _ _ (ap left c.into_iter-line-iterator.ensures.into_iter_gives ∙ ap (map ruled) (search (rules, take_all))) c.none-counts.ensures
 
 pub with-counts-requires : goal.with-counts-requires
 with-counts-requires c =
