@@ -80,7 +80,7 @@ fn put_rows(sheet: &[u8], out: &mut [u8]) -> usize
 }
 
 // The whole run: writes the rows of the sheet to the start of `out` and answers how many bytes they have, or turns the sheet back and leaves `out` as it is.
-// The zeros of a sheet that is turned back are written out, and `?` is not used, so that they are numbers that stand here.
+// What is said of a sheet that is turned back is written out, with no `?`, so that its length is a number that stands here.
 pub fn run(sheet: &[u8], out: &mut [u8]) -> Result<usize, TurnedBack>
     ensures readings { Readings (answer_to ToleranceFirst) (answer_to PressureFirst) sheet.now out.old result out.new }
     ensures fact { ◌≡◌ {A = Result ℕ TurnedBack × List ℕ} (result, out.new) (comparison sheet.now out.old) }

@@ -1,13 +1,13 @@
 // Writes the line of load cases (SCOPE 21 and 26.8).
 #![tactic(auto)]
 
-ghost use Rattle.std.specs.Prelude.{◌≡◌, List, ℕ, ◌≤◌, length};
+ghost use Rattle.std.specs.Prelude.{◌≡◌, List, ℕ, length};
 ghost use Rattle.text.specs.Pages.{Fits, Puts};
 ghost use Rattle.text.specs.Slices.{put};
 ghost use Rattle.cases.specs.Answering.{load_cases};
 ghost use Rattle.reading.specs.Text.{wall_text, ring_text, groups_text, inner_text};
 ghost use Rattle.writer.specs.Writing.{Written, line_of, Writes, written_number, written_by};
-ghost use Rattle.writer.specs.Writer.{spaced_group, pressure_text, writing};
+ghost use Rattle.writer.specs.Writer.{spaced_group, writing};
 
 use answer::Refusal;
 use cases::Cases;

@@ -1,9 +1,9 @@
 use native.Mathlib.Omega.{arith}
 use mathlib.Core.Path.{◌≡◌, ap, ◌∙◌}
 use Rattle.std.proofs.Common.{rules}
-use Rattle.std.proofs.lemmas.List.{take_all}
 use mathlib.Core.List.{map}
 use lib.ListN.{length-map}
+use lib.Seq.{take_all}
 use Rattle.text.specs.Bytes.{lines}
 use Rattle.text.specs.Slices.{put as put_at}
 use Rattle.text.proofs.Laws.{lines_le, opened_fits, opened_at, opened_out}
@@ -13,6 +13,7 @@ use Rattle.outcome.specs.Running.{ruled, listing}
 use Rattle.outcome.proofs.Laws.{left, left_next}
 use Rattle.sheet.proofs.put_listing.Goals as goal
 
+-- which lines the iterator gives is searched for and not named: code that cuts the sheet in another way, and rightly, has the same answer
 pub loop-line-init : goal.loop-line-init
 loop-line-init c = here_first _ _ _ _ (ap left c.into_iter-line-iterator.ensures.into_iter_gives ∙ ap (map ruled) (search (rules, take_all))) c.none-counts.ensures
 

@@ -30,6 +30,8 @@ returns-then-is_empty c =
     let e = writing_uncounted l c.args.out.now c.if-out-lt-ROOM_LEAST.false (eqb-true _ 0 (sym c.is_empty.ensures.value ∙ c.if-is_empty.true)) in
     record { writes = laid l c.args.out.now _ _ e; fact = e }
 
+-- What the checks say is searched for, here and below, and not named: code that takes it on in another way, and rightly, has the same answers.
+
 pub returns-in_err-check : goal.returns-in_err-check
 returns-in_err-check c =
     let l = load_cases c.args.c.now in
