@@ -11,13 +11,15 @@ use lib.Dec.{ltb}
 use lib.Seq.{take-suc}
 use borrow.Author.Tests.{lt-ltb}
 use Rattle.cylinder.specs.declared.ByStress.{ByStress}
+use Rattle.record.specs.declared.Ring.{Ring}
 use Rattle.record.specs.declared.Group.{Group}
-use Rattle.record.specs.Answering.{has_ring}
+use Rattle.record.specs.Answering.{has_ring, has_load}
+use Rattle.record.proofs.Loads.{load_is_ring}
 use Rattle.answer.specs.Checks.{AllPassed}
 use Rattle.record.specs.Limits.{checks}
 use Rattle.cases.specs.Cases.{LoadCases, alone, case_checks, At}
 use Rattle.cases.proofs.Right.{alone_passed}
-use Rattle.cases.specs.Answering.{no_group, WantedFor, WantedBy}
+use Rattle.cases.specs.Answering.{no_group, ServedFor, WantedBy, NeededBy}
 
 -- a group of a list with one more is one of the list, or that one
 pub at_next : (gs : List Group) (h : Group) (m : ℕ) (g : Group) → At (gs ++ (h ∷ [])) m g → At gs m g ⊎ (g ≡ h)
@@ -34,30 +36,52 @@ or_right : (a b : Bool) → b ≡ true → a || b ≡ true
 or_right true b e = refl
 or_right false b e = e
 
--- what one more load case needs besides
+module _ (matters : Ring → Bool) where
+  -- what one more load case needs besides
+  abbrev pub served_too : ByStress Bool → Group → ByStress Bool
+  served_too w g = record { axial = w.axial || ltb 0 g.axial; ring = w.ring || matters g.ring; shear = w.shear || ltb 0 g.shear }
+
+  served_before : (g h : Group) (w : ByStress Bool) → ServedFor matters g w → ServedFor matters g (served_too w h)
+  served_before g h w k =
+      record { axial_is = λ n. or_left _ _ (k.axial_is n); ring_is = λ n. or_left _ _ (k.ring_is n); shear_is = λ n. or_left _ _ (k.shear_is n) }
+
+  served_here : (g : Group) (w : ByStress Bool) → ServedFor matters g (served_too w g)
+  served_here g w =
+      record {
+        axial_is = λ n. or_right w.axial (ltb 0 g.axial) (lt-ltb 0 g.axial n);
+        ring_is = λ n. or_right w.ring (matters g.ring) n;
+        shear_is = λ n. or_right w.shear (ltb 0 g.shear) (lt-ltb 0 g.shear n);
+      }
+
+  pub served_step : (gs : List Group) (i : ℕ) (w r : ByStress Bool) → i < length gs → ((m : ℕ) (g : Group) → At (take i gs) m g → ServedFor matters g w) →
+      r ≡ served_too w (get_or gs i no_group) → (m : ℕ) (g : Group) → At (take (i + 1) gs) m g → ServedFor matters g r
+  served_step gs i w r there all e m g at =
+      subst (ServedFor matters g) (sym e)
+      (⊎_elim (λ before. served_before g h w (all m g before)) (λ here. subst (λ (x : Group). ServedFor matters x (served_too w h)) (sym here) (served_here h w))
+      (at_next (take i gs) h m g (subst (λ (l : List Group). At l m g) (ap (λ (n : ℕ). take n gs) (add-one i) ∙ take-suc gs i no_group there) at)))
+    where
+      h : Group
+      h = get_or gs i no_group
+
+-- what one more load case may need besides: any wind matters
 abbrev pub wanted_too : ByStress Bool → Group → ByStress Bool
-wanted_too w g = record { axial = w.axial || ltb 0 g.axial; ring = w.ring || has_ring g.ring; shear = w.shear || ltb 0 g.shear }
-
-wanted_before : (g h : Group) (w : ByStress Bool) → WantedFor g w → WantedFor g (wanted_too w h)
-wanted_before g h w k =
-    record { axial_is = λ n. or_left _ _ (k.axial_is n); ring_is = λ n. or_left _ _ (k.ring_is n); shear_is = λ n. or_left _ _ (k.shear_is n) }
-
-wanted_here : (g : Group) (w : ByStress Bool) → WantedFor g (wanted_too w g)
-wanted_here g w =
-    record {
-      axial_is = λ n. or_right w.axial (ltb 0 g.axial) (lt-ltb 0 g.axial n);
-      ring_is = λ n. or_right w.ring (has_ring g.ring) n;
-      shear_is = λ n. or_right w.shear (ltb 0 g.shear) (lt-ltb 0 g.shear n);
-    }
+wanted_too w g = served_too has_ring w g
 
 pub wanted_step : (gs : List Group) (i : ℕ) (w r : ByStress Bool) → i < length gs → WantedBy (take i gs) w → r ≡ wanted_too w (get_or gs i no_group) → WantedBy (take (i + 1) gs) r
-wanted_step gs i w r there all e m g at =
-    subst (WantedFor g) (sym e)
-    (⊎_elim (λ before. wanted_before g h w (all m g before)) (λ here. subst (λ (x : Group). WantedFor x (wanted_too w h)) (sym here) (wanted_here h w))
-    (at_next (take i gs) h m g (subst (λ (l : List Group). At l m g) (ap (λ (n : ℕ). take n gs) (add-one i) ∙ take-suc gs i no_group there) at)))
-  where
-    h : Group
-    h = get_or gs i no_group
+wanted_step gs i w r there all e = served_step has_ring gs i w r there all e
+
+-- what it needs: only wind of a gust above 0 matters
+abbrev pub needed_too : ByStress Bool → Group → ByStress Bool
+needed_too w g = served_too has_load w g
+
+pub needed_step : (gs : List Group) (i : ℕ) (w r : ByStress Bool) → i < length gs → NeededBy (take i gs) w → r ≡ needed_too w (get_or gs i no_group) → NeededBy (take (i + 1) gs) r
+needed_step gs i w r there all e = served_step has_load gs i w r there all e
+
+-- what is wanted for any wind serves as what is needed
+pub wanted_needed : (gs : List Group) (w : ByStress Bool) → WantedBy gs w → NeededBy gs w
+wanted_needed gs w all m g at =
+    let k = all m g at in
+    record { axial_is = k.axial_is; ring_is = λ n. k.ring_is (load_is_ring g.ring n); shear_is = k.shear_is }
 
 -- the group at a place of a list
 pub there_at : (gs : List Group) (i : ℕ) → i < length gs → At gs i (get_or gs i no_group)

@@ -7,9 +7,10 @@ use Rattle.answer.specs.Answers.{Answer}
 use Rattle.answer.specs.declared.Judgement.{Judgement}
 use Rattle.answer.specs.Governing.{governing}
 use Rattle.answer.specs.Answering.{first_or, judgement_of, of_case}
+use Rattle.record.specs.declared.Ring.{Ring}
 use Rattle.record.specs.declared.Group.{Group}
 use Rattle.record.specs.Limits.{stresses, wind_allowed}
-use Rattle.record.specs.Answering.{has_ring, judgement_of_record}
+use Rattle.record.specs.Answering.{has_ring, has_load, judgement_of_record}
 use Rattle.cases.specs.declared.Cases.{Cases}
 use Rattle.cases.specs.Numbers.{first_from}
 use Rattle.cases.specs.Cases.{LoadCases, alone, every, case_checks, At}
@@ -32,14 +33,25 @@ pub record Stands (six thirteen : Bool) (g : Group) : Type 0 where
 abbrev pub StandsFor : List Group → Group → Type 0
 StandsFor gs g = Stands (every stresses gs) (every (λ h. wind_allowed h.ring) gs) g
 
--- the places of S that a load case needs are wanted
-pub record WantedFor (g : Group) (w : ByStress Bool) : Type 0 where
+-- each stress of a load case that is above 0 has its place in w; a ring stress or wind has it where `matters` says so
+pub record ServedFor (matters : Ring → Bool) (g : Group) (w : ByStress Bool) : Type 0 where
   pub axial_is : 0 < g.axial → w.axial ≡ true
-  pub ring_is : has_ring g.ring ≡ true → w.ring ≡ true
+  pub ring_is : matters g.ring ≡ true → w.ring ≡ true
   pub shear_is : 0 < g.shear → w.shear ≡ true
+
+-- any wind matters
+abbrev pub WantedFor : Group → ByStress Bool → Type 0
+WantedFor g w = ServedFor has_ring g w
 
 abbrev pub WantedBy : List Group → ByStress Bool → Type 0
 WantedBy gs w = (m : ℕ) (g : Group) → At gs m g → WantedFor g w
+
+-- only wind of a gust above 0 matters
+abbrev pub NeededFor : Group → ByStress Bool → Type 0
+NeededFor g w = ServedFor has_load g w
+
+abbrev pub NeededBy : List Group → ByStress Bool → Type 0
+NeededBy gs w = (m : ℕ) (g : Group) → At gs m g → NeededFor g w
 
 -- the judgements of the load cases, numbered from n on
 unfoldable pub judgements : Order → LoadCases → ℕ → List Group → List Judgement

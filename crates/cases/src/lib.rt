@@ -9,7 +9,7 @@ ghost use Rattle.record.specs.Limits.{stresses, wind_allowed};
 ghost use Rattle.record.specs.Answering.{WorkedOn};
 ghost use Rattle.cases.specs.Cases.{one_case, alone, case_checks, RightCases, At};
 ghost use Rattle.cases.specs.Numbers.{ring_from, group_from};
-ghost use Rattle.cases.specs.Answering.{ListedOf, load_cases, no_group, Counted, Stands, StandsFor, WantedBy, judgements, governs, cases_answer};
+ghost use Rattle.cases.specs.Answering.{ListedOf, load_cases, no_group, Counted, Stands, StandsFor, NeededBy, judgements, governs, cases_answer};
 
 use answer::{Answer, Judgement, Refusal};
 use cylinder::ByStress;
@@ -90,13 +90,13 @@ impl Cases {
     }
 
     // Which places of S the load cases need.
-    fn wanted(&self) -> ByStress<bool>
-        ensures { WantedBy self.now.groups result }
+    fn needed(&self) -> ByStress<bool>
+        ensures { NeededBy self.now.groups result }
     {
         let groups = self.groups.as_slice();
         let mut all = ByStress::default();
         for g in groups {
-            let more = g.wanted();
+            let more = g.needed();
             all.axial |= more.axial;
             all.ring |= more.ring;
             all.shear |= more.shear;
@@ -145,7 +145,7 @@ impl ValidCases<'_> {
     fn worked(self, o: Order) -> Worked
         ensures { (m : ℕ) (g : Group) → At self.entry.given.now.groups m g → WorkedOn o (alone (load_cases self.entry.given.now) g) result }
     {
-        self.first().pressed(o).work(self.given.wanted())
+        self.first().pressed(o).work(self.given.needed())
     }
 
     // The judgement that governs. The load cases are numbered from 1, in the order of the line.

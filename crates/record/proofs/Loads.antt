@@ -23,7 +23,7 @@ use Rattle.record.specs.declared.Ring.{Ring}
 use Rattle.record.specs.declared.Ring.TheVariants.{Stress, Wind}
 use Rattle.record.specs.declared.Record.{Record}
 use Rattle.record.specs.Right.{ring_stress}
-use Rattle.record.specs.Answering.{has_ring, WorkedOn, bounds_of}
+use Rattle.record.specs.Answering.{has_ring, has_load, WorkedOn, bounds_of}
 use Rattle.record.specs.Limits.{pressure_of, ring_in_range, wind_allowed, checks, cylinder_of}
 use Rattle.record.proofs.Checks.{ranges, cylinder_within}
 
@@ -40,18 +40,28 @@ module _ (c : Record) (all : AllPassed (checks c)) where
   pub pressure_fits : (p : ℕ) → p ≡ pressure_of c.inner → p ≤ 1000000
   pressure_fits p e = omega (arith, leb-true (pressure_of c.inner) 1000000 all.1.1.1.1.1.1.1.0)
 
--- a ring stress above 0 comes from one or from wind, and a gust of 0 makes none
-ring_loaded : (s : Cylinder) → InLimits s → (r : Ring) → 0 < ring_stress s r → has_ring r ≡ true
-ring_loaded s ok (Stress σφ) some = lt-ltb 0 σφ some
-ring_loaded s ok (Wind zero v) some = absurd (omega (arith, some, no_wind s ok v))
-ring_loaded s ok (Wind (suc w) v) some = lt-ltb 0 (suc w) (omega arith)
+-- a ring stress above 0 comes from one or from wind
+pub ring_loaded : (s : Cylinder) (r : Ring) → 0 < ring_stress s r → has_ring r ≡ true
+ring_loaded s (Stress σφ) some = lt-ltb 0 σφ some
+ring_loaded s (Wind w v) some = refl
+
+-- and where it comes from wind, the gust is above 0
+ring_needed : (s : Cylinder) → InLimits s → (r : Ring) → 0 < ring_stress s r → has_load r ≡ true
+ring_needed s ok (Stress σφ) some = lt-ltb 0 σφ some
+ring_needed s ok (Wind zero v) some = absurd (omega (arith, some, no_wind s ok v))
+ring_needed s ok (Wind (suc w) v) some = lt-ltb 0 (suc w) (omega arith)
+
+-- where `has_load` holds, `has_ring` does
+pub load_is_ring : (r : Ring) → has_load r ≡ true → has_ring r ≡ true
+load_is_ring (Stress σφ) some = some
+load_is_ring (Wind w v) some = refl
 
 -- what was worked for the places that a record needs serves it
 pub worked_on : {A R H : Type 0} (o : Order) (c : Record) (v : Pressed) (w : Worked) → v.order ≡ o → v.shell.cylinder ≡ cylinder_of c.wall → v.pressure.pascals ≡ pressure_of c.inner →
-    (ltb 0 c.group.axial ≡ true → A) → (has_ring c.group.ring ≡ true → R) → (ltb 0 c.group.shear ≡ true → H) → WorkedFor v.order v.shell.cylinder v.pressure.pascals A R H w → WorkedOn o c w
+    (ltb 0 c.group.axial ≡ true → A) → (has_load c.group.ring ≡ true → R) → (ltb 0 c.group.shear ≡ true → H) → WorkedFor v.order v.shell.cylinder v.pressure.pascals A R H w → WorkedOn o c w
 worked_on o c v w d e f a r h k =
     subst (λ (x : Order). WorkedOn x c w) d
-    (worked_same _ _ _ _ _ e f (λ n. a (lt-ltb 0 c.group.axial n)) (λ n. r (ring_loaded (cylinder_of c.wall) (subst InLimits e v.shell.in_limits) c.group.ring n)) (λ n. h (lt-ltb 0 c.group.shear n)) k)
+    (worked_same _ _ _ _ _ e f (λ n. a (lt-ltb 0 c.group.axial n)) (λ n. r (ring_needed (cylinder_of c.wall) (subst InLimits e v.shell.in_limits) c.group.ring n)) (λ n. h (lt-ltb 0 c.group.shear n)) k)
 
 -- a whole stress as a load
 load_whole : {x : ℕ} (l : Load) → (l.num ≡ x) × (l.den ≡ 1) → fraction_of l ≡ whole x

@@ -44,14 +44,23 @@ ring_stress_of c = first_or (λ n. 0) (ring_stress (cylinder_of c.wall) c.group.
 unfoldable pub gain_of_record : Order → Record → Gain
 gain_of_record o c = first_or (λ n. Idle) (gain_of o (cylinder_of c.wall) (pressure_of c.inner)) (checks c)
 
--- there is a ring stress, or wind that makes one
+-- there is a ring stress, or wind, which may make one
 abbrev pub has_ring : Ring → Bool
 has_ring (Stress σφ) = ltb 0 σφ
-has_ring (Wind w v) = ltb 0 w
+has_ring (Wind w v) = true
 
--- the places of S that a group needs
+-- there is a ring stress, or wind that makes one: a gust of 0 makes none
+abbrev pub has_load : Ring → Bool
+has_load (Stress σφ) = ltb 0 σφ
+has_load (Wind w v) = ltb 0 w
+
+-- the places of S that a group may need: that of ring stress for any wind
 abbrev pub wanted_of : Group → ByStress Bool
 wanted_of g = record { axial = ltb 0 g.axial; ring = has_ring g.ring; shear = ltb 0 g.shear }
+
+-- those that it needs
+abbrev pub needed_of : Group → ByStress Bool
+needed_of g = record { axial = ltb 0 g.axial; ring = has_load g.ring; shear = ltb 0 g.shear }
 
 -- what depends on a record's wall alone has been worked, as far as its stresses need it
 abbrev pub WorkedOn : Order → Record → Worked → Type 0

@@ -8,7 +8,7 @@ ghost use Rattle.line_bounds.specs.Means.{GainMeans};
 ghost use Rattle.record.specs.Limits.{from_to, in_range, dimensions, material, ring_in_range, stresses, edges_known, effective_wall, wall_ratio, length_ratio, wind_allowed, pressure_of, checks, cylinder_of, unpressed, with_inner};
 ghost use Rattle.record.specs.Right.{ring_stress, Right};
 ghost use Rattle.pressure.specs.declared.Order.TheVariants.{PressureFirst};
-ghost use Rattle.record.specs.Answering.{has_ring, wanted_of, WorkedOn, judgement_of_record, record_answer, ring_stress_of, gain_of_record};
+ghost use Rattle.record.specs.Answering.{has_load, wanted_of, needed_of, WorkedOn, judgement_of_record, record_answer, ring_stress_of, gain_of_record};
 
 use answer::{Answer, Judgement, Refusal};
 use bounds::Load;
@@ -198,7 +198,7 @@ impl Ring {
 
     // Whether there is a ring stress, or wind that makes one.
     fn is_loaded(self) -> bool
-        ensures { result ≡ has_ring self }
+        ensures { result ≡ has_load self }
     {
         match self {
             Ring::Stress(stress) => 0 < stress,
@@ -236,9 +236,22 @@ impl Group {
             && self.shear <= Record::STRESS_MOST
     }
 
-    // Which places of S the group needs.
+    // Which places of S the group may need: that of ring stress for any wind. The library asks which it needs; this stays for callers, to whom it was
+    // promised.
     pub fn wanted(self) -> ByStress<bool>
         ensures { result ≡ wanted_of self }
+    {
+        let needed = self.needed();
+        let ring = match self.ring {
+            Ring::Stress(_) => needed.ring,
+            Ring::Wind(_, _) => true,
+        };
+        ByStress { ring, ..needed }
+    }
+
+    // Which places of S the group needs.
+    pub fn needed(self) -> ByStress<bool>
+        ensures { result ≡ needed_of self }
     {
         ByStress {
             axial: 0 < self.axial,
@@ -477,5 +490,31 @@ impl ValidRecord {
     {
         let b = self.pressed(o).of_line(self.loads());
         Judgement::by_bounds(b.low, b.high)
+    }
+}
+
+#[cfg(test)]
+mod tests {
+    use super::*;
+
+    // The places that a group may need, and those that it needs: they differ for wind of a gust of 0.
+    #[test]
+    fn places_of_a_group(rt: HostRuntime) {
+        for (ring, wanted, needed) in [
+            (Ring::Stress(0), false, false),
+            (Ring::Stress(1), true, true),
+            (Ring::Wind(0, 1), true, false),
+            (Ring::Wind(1, 0), true, true),
+        ] {
+            let group = Group {
+                axial: 1,
+                ring,
+                shear: 0,
+            };
+            assert!(rt; group.wanted().axial && !group.wanted().shear);
+            assert!(rt; group.needed().axial && !group.needed().shear);
+            assert_eq!(rt; group.wanted().ring, wanted);
+            assert_eq!(rt; group.needed().ring, needed);
+        }
     }
 }

@@ -11,7 +11,7 @@ use Rattle.cases.proofs.ValidCases.worked.Goals as goal
 pub returns : goal.returns
 returns c m g at =
     let e = c.pressed.ensures in
-    let wants = c.wanted.ensures m g at in
+    let needs = c.needed.ensures m g at in
     worked_on c.args.o (alone (load_cases c.args.self.given.now) g) c.pressed.result _ e.order (e.shell ∙ ap (λ (r : Record). cylinder_of r.wall) c.first.ensures)
-    (e.pressure ∙ ap (λ (r : Record). pressure_of r.inner) c.first.ensures) (λ n. wants.axial_is (ltb-true 0 g.axial n)) wants.ring_is
-    (λ n. wants.shear_is (ltb-true 0 g.shear n)) c.work.ensures
+    (e.pressure ∙ ap (λ (r : Record). pressure_of r.inner) c.first.ensures) (λ n. needs.axial_is (ltb-true 0 g.axial n)) needs.ring_is
+    (λ n. needs.shear_is (ltb-true 0 g.shear n)) c.work.ensures
