@@ -236,8 +236,7 @@ impl Group {
             && self.shear <= Record::STRESS_MOST
     }
 
-    // Which places of S the group may need: that of ring stress for any wind. The library asks which it needs; this stays for callers, to whom it was
-    // promised.
+    // Which places of S the group may need: that of ring stress for any wind. `Cases` asks `needed`; this stays for callers, to whom it was promised.
     pub fn wanted(self) -> ByStress<bool>
         ensures { result ≡ wanted_of self }
     {
